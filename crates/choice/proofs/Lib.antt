@@ -1,0 +1,3 @@
+pub mod Auto
+pub mod Cases
+pub mod Exactly

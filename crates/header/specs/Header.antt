@@ -1,0 +1,50 @@
+-- The header: how many nodes there are, its faults row by row, and the load test.
+use Prim.Native.Nat.{ℕ, _+_, _*_, _/_, _^_}
+use mathlib.Core.Bool.{Bool, true, false, not, _&&_, _||_}
+use lib.Dec.{leb, ltb, eqb}
+use Rattle.choice.specs.Choice.{pick}
+use Rattle.split.specs.Split.{powerOfTwo}
+use Rattle.header.specs.declared.Header.{Header}
+
+-- the header with another size, count or set of busy workers; antt has no update of a record
+abbrev pub sized : ℕ → Header → Header
+sized v h = record { m = h .m; k = h .k; w = h .w; l = h .l; size = v; count = h .count; busy = h .busy }
+
+abbrev pub counted : ℕ → Header → Header
+counted v h = record { m = h .m; k = h .k; w = h .w; l = h .l; size = h .size; count = v; busy = h .busy }
+
+abbrev pub busied : ℕ → Header → Header
+busied v h = record { m = h .m; k = h .k; w = h .w; l = h .l; size = h .size; count = h .count; busy = v }
+
+-- N = M + W + K: dummies are nodes 1 to M + W, keys the next K
+abbrev pub dummiesOf : Header → ℕ
+dummiesOf h = h .m + h .w
+
+abbrev pub nodesOf : Header → ℕ
+nodesOf h = h .m + h .w + h .k
+
+-- x is a power of two from 2 to `most`
+unfoldable pub powerUpTo : ℕ → ℕ → Bool
+powerUpTo most x = leb 2 x && leb x most && powerOfTwo x
+
+abbrev pub outside : ℕ → ℕ → ℕ → Bool
+outside low high x = ltb x low || ltb high x
+
+-- ---- "a header limit is broken": M a power of two, 2 to 1,024; K, 1 to 4,096; W, 1 to 16; L, 1 to 8
+unfoldable pub limitBroken : Header → Bool
+limitBroken h = not (powerUpTo 1024 (h .m)) || outside 1 4096 (h .k) || outside 1 16 (h .w) || outside 1 8 (h .l)
+
+-- "size isn't a power of two from 2 to M"
+unfoldable pub sizeBroken : Header → Bool
+sizeBroken h = not (powerUpTo (h .m) (h .size))
+
+-- "busy has a bit at W or above"
+unfoldable pub busyBeyond : Header → Bool
+busyBeyond h = leb (2 ^ h .w) (h .busy)
+
+unfoldable pub headerDamaged : Header → Bool
+headerDamaged h = limitBroken h || sizeBroken h || busyBeyond h
+
+-- I9's load test: old is not negative, old / size (rounded down) is above L, and the size read is below M
+unfoldable pub doubles : Header → ℕ → ℕ → Bool
+doubles h size old = ltb old 2147483648 && ltb (h .l) (old / size) && ltb size (h .m)

@@ -1,0 +1,73 @@
+// The register's header, by value: its faults, row by row of the scope paper, and the load test.
+ghost use mathlib.Core.Path.{_≡_};
+ghost use Rattle.header.specs.Header.{nodesOf, powerUpTo, limitBroken, sizeBroken, busyBeyond, headerDamaged, doubles};
+
+// The register's header: limits M, K, W, L, the size, the count and the set of busy workers.
+pub struct Header {
+    pub m: u32,
+    pub k: u32,
+    pub w: u32,
+    pub l: u32,
+    pub size: u32,
+    pub count: u32,
+    pub busy: u32,
+}
+
+// x is a power of two from 2 to `most`.
+pub fn power_up_to(most: u32, x: u32) -> bool
+    ensures { λ r. ⌜ r ≡ powerUpTo most x ⌝ }
+{
+    (2 <= x) & (x <= most) & split::power_of_two(x)
+}
+
+impl Header {
+    // How many nodes there are, N.
+    pub fn nodes(self) -> u64
+        ensures { λ r. ⌜ r ≡ nodesOf self ⌝ }
+    {
+        (self.m as u64) + (self.w as u64) + (self.k as u64)
+    }
+
+    // A limit of the scope paper is broken.
+    pub fn limit_broken(self) -> bool
+        ensures { λ r. ⌜ r ≡ limitBroken self ⌝ }
+    {
+        !power_up_to(1024, self.m)
+            | ((self.k < 1) | (4096 < self.k))
+            | ((self.w < 1) | (16 < self.w))
+            | ((self.l < 1) | (8 < self.l))
+    }
+
+    fn size_broken(self) -> bool
+        ensures { λ r. ⌜ r ≡ sizeBroken self ⌝ }
+    {
+        !power_up_to(self.m, self.size)
+    }
+
+    // A word has no bit at 32 or above.
+    fn busy_beyond(self) -> bool
+        ensures { λ r. ⌜ r ≡ busyBeyond self ⌝ }
+    {
+        if 32 <= self.w {
+            return false;
+        }
+        1u64 << self.w <= self.busy as u64
+    }
+
+    // 12, the header's part.
+    pub fn damaged(self) -> bool
+        ensures { λ r. ⌜ r ≡ headerDamaged self ⌝ }
+    {
+        self.limit_broken() | self.size_broken() | self.busy_beyond()
+    }
+
+    // The load test of figure 5, lines I9 and I10: with its top bit set the old count is negative.
+    pub fn doubles(self, size: u32, old: u32) -> bool
+        ensures { λ r. ⌜ r ≡ doubles self size old ⌝ }
+    {
+        if size == 0 {
+            return false;
+        }
+        (old < 2147483648) & (self.l < old / size) & (size < self.m)
+    }
+}

@@ -1,0 +1,38 @@
+-- Each test that was passed says which way the definition goes.
+-- Assumes nothing.
+use mathlib.Core.Path.{_≡_, refl, sym, _∙_}
+use borrow.Author.Tests.{eq-eqb, ne-eqb, lt-ltb, le-ltb}
+use Rattle.choice.proofs.Auto.{then-is, else-is}
+use Rattle.moves.specs.Moves.{b2}
+use borrow.Author.Needs.{needs}
+use Rattle.moves.proofs.Seen.b2.Statement.{statement}
+use Rattle.moves.proofs.Seen.b2.Tie as tie
+
+nodes-requires : tie.Need-nodes-requires
+nodes-requires c κs = tt
+
+cast-if1 : tie.Need-cast-if1
+cast-if1 c = search needs
+
+returns : tie.Need-returns
+unfolding b2
+returns c = then-is _ _ _ _ (rw (← c .before .before .nodes .ensures) ((lt-ltb _ _ (c .if1 .taken))))
+    (refl)
+
+parent-requires : tie.Need-parent-requires
+parent-requires c κs = tt
+
+returns-2 : tie.Need-returns-2
+unfolding b2
+returns-2 c = else-is _ _ _ _ (rw (← c .before .before .before .before .before .nodes .ensures) ((le-ltb _ _ (c .before .before .before .if1 .left))))
+    (then-is _ _ _ _ (eq-eqb _ _ (c .before .if2 .taken))
+    (rw (c .parent .ensures)))
+
+returns-3 : tie.Need-returns-3
+unfolding b2
+returns-3 c = else-is _ _ _ _ (rw (← c .before .before .before .before .nodes .ensures) ((le-ltb _ _ (c .before .before .if1 .left))))
+    (else-is _ _ _ _ (ne-eqb _ _ (c .if2 .left))
+    (refl))
+
+pub b2-spec : {M : Type 1} → statement M
+b2-spec = tie.close (tie.spec nodes-requires cast-if1 returns parent-requires returns-2 returns-3)

@@ -1,0 +1,33 @@
+-- Each test that was passed says which way the definition goes.
+-- Assumes nothing.
+use mathlib.Core.Path.{_≡_, refl, sym, _∙_}
+use Rattle.choice.proofs.Auto.{then-is, else-is}
+use Rattle.moves.specs.Moves.{d4a}
+use Rattle.moves.proofs.Seen.d4a.Statement.{statement}
+use Rattle.moves.proofs.Seen.d4a.Tie as tie
+
+bad-link-requires : tie.Need-bad-link-requires
+bad-link-requires c κs = tt
+
+returns : tie.Need-returns
+unfolding d4a
+returns c = then-is _ _ _ _ (rw (← c .before .bad-link .ensures) (c .if1 .taken))
+    (refl)
+
+is-to-requires : tie.Need-is-to-requires
+is-to-requires c κs = tt
+
+returns-2 : tie.Need-returns-2
+unfolding d4a
+returns-2 c = else-is _ _ _ _ (rw (← c .before .before .before .bad-link .ensures) (c .before .before .if1 .left))
+    (then-is _ _ _ _ (sym (c .before .is-to .ensures) ∙ c .if2 .taken)
+    (refl))
+
+returns-3 : tie.Need-returns-3
+unfolding d4a
+returns-3 c = else-is _ _ _ _ (rw (← c .before .before .before .bad-link .ensures) (c .before .before .if1 .left))
+    (else-is _ _ _ _ (sym (c .before .is-to .ensures) ∙ c .if2 .left)
+    (refl))
+
+pub d4a-spec : {M : Type 1} → statement M
+d4a-spec = tie.close (tie.spec bad-link-requires returns is-to-requires returns-2 returns-3)

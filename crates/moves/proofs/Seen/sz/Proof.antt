@@ -1,0 +1,16 @@
+-- The code computes what the definition says.
+-- Assumes nothing.
+use mathlib.Core.Path.{_≡_, refl, sym, _∙_}
+use Rattle.moves.specs.Moves.{sz}
+use Rattle.moves.proofs.Seen.sz.Statement.{statement}
+use Rattle.moves.proofs.Seen.sz.Tie as tie
+
+remainder-requires : tie.Need-remainder-requires
+remainder-requires c κs = tt
+
+returns : tie.Need-returns
+unfolding sz
+returns c = rw (c .remainder .ensures)
+
+pub sz-spec : {M : Type 1} → statement M
+sz-spec = tie.close (tie.spec remainder-requires returns)

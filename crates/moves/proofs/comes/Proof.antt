@@ -1,0 +1,24 @@
+-- Each test that was passed says which way the definition goes.
+-- Assumes nothing.
+use mathlib.Core.Path.{_≡_, refl, sym, _∙_}
+use borrow.Author.Tests.{eq-eqb, ne-eqb}
+use Rattle.choice.proofs.Auto.{then-is, else-is}
+use Rattle.moves.specs.Moves.{comes}
+use Rattle.moves.proofs.comes.Statement.{statement}
+use Rattle.moves.proofs.comes.Tie as tie
+
+not-found-requires : tie.Need-not-found-requires
+not-found-requires c κs = tt
+
+returns : tie.Need-returns
+unfolding comes
+returns c = then-is _ _ _ _ (eq-eqb _ _ (c .before .if1 .taken))
+    (c .not-found .ensures)
+
+returns-2 : tie.Need-returns-2
+unfolding comes
+returns-2 c = else-is _ _ _ _ (ne-eqb _ _ (c .if1 .left))
+    (refl)
+
+pub comes-spec : {M : Type 1} → statement M
+comes-spec = tie.close (tie.spec not-found-requires returns returns-2)

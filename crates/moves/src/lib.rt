@@ -1,0 +1,320 @@
+// What one step does, place by place, decided from numbers alone: the header, the record and the word that the step read.
+ghost use mathlib.Core.Path.{_≡_};
+ghost use Prim.Native.Nat.{_%_};
+ghost use Rattle.moves.specs.Moves.{badLink, wantOf, heldFor, notFound, found, foundKey, comes, f1, f2, f3, judged, f4, decided};
+use header::Header;
+use names::Answer;
+use names::errand;
+use names::kind;
+use names::place;
+use record::Worker;
+
+mod buckets;
+mod changes;
+
+// What a step sees: what it is handed, the shared word that it read, and at F3 the split key of cur.
+pub struct Seen {
+    pub header: Header,
+    pub worker: Worker,
+    pub word: u32,
+    pub split: u32,
+}
+
+// The write of one step, by what it does to shared memory.
+pub enum Effect {
+    Nothing,
+    // I1, B4: the node is taken, with its split key.
+    Take {
+        node: u32,
+        split: u32,
+    },
+    // The dummy that another worker made first is free.
+    Free {
+        node: u32,
+    },
+    // L2 failed: the held node's link is written all the same.
+    Aim {
+        node: u32,
+        next: u32,
+    },
+    // L2 done: the held node is on the chain, between prev and next.
+    Place {
+        node: u32,
+        next: u32,
+        prev: u32,
+    },
+    // D4a done: the node is marked.
+    Mark {
+        node: u32,
+        next: u32,
+    },
+    // F4, D4b done: the node is off the chain and waits for the busy workers.
+    Unlink {
+        prev: u32,
+        next: u32,
+        node: u32,
+        busy: u32,
+    },
+    // B8: the bucket is set.
+    Store {
+        bucket: u32,
+        node: u32,
+    },
+    // I9, D6: the shared count.
+    Count {
+        value: u32,
+    },
+    // I10: the size.
+    Size {
+        value: u32,
+    },
+}
+
+// What is decided: damaged words, or the record that goes on, or the answer that ends the operation, with the write.
+pub enum Move {
+    Damaged,
+    Going { worker: Worker, effect: Effect },
+    Ended { answer: Answer, effect: Effect },
+}
+
+// x mod d, and x where d is 0.
+fn remainder(x: u32, d: u32) -> u32
+    ensures { λ r. ⌜ r ≡ x % d ⌝ }
+{
+    if d == 0 {
+        return x;
+    }
+    x % d
+}
+
+// The wanted split key: a dummy's, or the key's.
+fn want_of(x: Worker) -> u32
+    ensures { λ r. ⌜ r ≡ wantOf x ⌝ }
+{
+    if x.errand == errand::DUMMY {
+        return split::dummy_key(x.making);
+    }
+    split::regular_key(x.key)
+}
+
+// The node that L2 puts on the chain.
+fn held_for(x: Worker) -> u32
+    ensures { λ r. ⌜ r ≡ heldFor x ⌝ }
+{
+    if x.errand == errand::DUMMY {
+        return x.dummy;
+    }
+    x.held
+}
+
+// The search ended without the wanted split key.
+fn not_found(mut x: Worker, effect: Effect) -> Move
+    ensures { λ r. ⌜ r ≡ notFound x effect ⌝ }
+{
+    if x.errand == errand::EXTRA {
+        x.place = place::D6;
+        return Move::Going { worker: x, effect };
+    }
+    if (x.errand == errand::DUMMY) | (x.kind == kind::INSERT) {
+        x.place = place::L2;
+        return Move::Going { worker: x, effect };
+    }
+    Move::Ended {
+        answer: Answer::No,
+        effect,
+    }
+}
+
+// The search ended at cur: another worker's dummy is used in the place of the one held.
+fn found(mut x: Worker) -> Move
+    ensures { λ r. ⌜ r ≡ found x ⌝ }
+{
+    if x.errand == errand::EXTRA {
+        x.place = place::D6;
+        return Move::Going {
+            worker: x,
+            effect: Effect::Nothing,
+        };
+    }
+    if x.errand == errand::KEY {
+        return found_key(x);
+    }
+    if x.dummy == 0 {
+        return Move::Damaged;
+    }
+    let spare = x.dummy;
+    x.dummy = x.cur;
+    x.place = place::B8;
+    Move::Going {
+        worker: x,
+        effect: Effect::Free { node: spare },
+    }
+}
+
+// The key is there: no to an insert, whose node the end frees; yes to a find; a delete goes to D4a.
+fn found_key(mut x: Worker) -> Move
+    ensures { λ r. ⌜ r ≡ foundKey x ⌝ }
+{
+    if x.kind == kind::INSERT {
+        if x.held == 0 {
+            return Move::Damaged;
+        }
+        return Move::Ended {
+            answer: Answer::No,
+            effect: Effect::Nothing,
+        };
+    }
+    if x.kind == kind::FIND {
+        return Move::Ended {
+            answer: Answer::Yes,
+            effect: Effect::Nothing,
+        };
+    }
+    x.place = place::D4A;
+    Move::Going {
+        worker: x,
+        effect: Effect::Nothing,
+    }
+}
+
+// The search comes to cur, after prev: the end of the chain, or F2.
+fn comes(mut x: Worker, prev: u32, cur: u32, effect: Effect) -> Move
+    ensures { λ r. ⌜ r ≡ comes x prev cur effect ⌝ }
+{
+    x.prev = prev;
+    x.cur = cur;
+    if cur == 0 {
+        return not_found(x, effect);
+    }
+    x.place = place::F2;
+    Move::Going { worker: x, effect }
+}
+
+impl Seen {
+    // A link read above 2N + 1.
+    fn bad_link(self) -> bool
+        ensures { λ r. ⌜ r ≡ badLink self ⌝ }
+    {
+        self.header.nodes() * 2 + 1 < self.word as u64
+    }
+
+    fn f1(self) -> Move
+        ensures { λ r. ⌜ r ≡ f1 self ⌝ }
+    {
+        let x = self.worker;
+        if (x.start == 0) | self.bad_link() {
+            return Move::Damaged;
+        }
+        comes(x, x.start, self.word / 2, Effect::Nothing)
+    }
+
+    fn f2(self) -> Move
+        ensures { λ r. ⌜ r ≡ f2 self ⌝ }
+    {
+        let mut x = self.worker;
+        if (x.cur == 0) | self.bad_link() {
+            return Move::Damaged;
+        }
+        x.next = self.word / 2;
+        x.marked = self.word % 2 == 1;
+        x.place = place::F3;
+        Move::Going {
+            worker: x,
+            effect: Effect::Nothing,
+        }
+    }
+
+    fn f3(self) -> Move
+        ensures { λ r. ⌜ r ≡ f3 self ⌝ }
+    {
+        let mut x = self.worker;
+        if (x.prev == 0) | self.bad_link() {
+            return Move::Damaged;
+        }
+        if words::is_to(self.word, x.cur) {
+            return self.judged();
+        }
+        x.place = place::F1;
+        Move::Going {
+            worker: x,
+            effect: Effect::Nothing,
+        }
+    }
+
+    // prev's link was unmarked with next cur: cur was marked at F2, or its split key is compared.
+    fn judged(self) -> Move
+        ensures { λ r. ⌜ r ≡ judged self ⌝ }
+    {
+        let mut x = self.worker;
+        if x.marked {
+            x.place = place::F4;
+            return Move::Going {
+                worker: x,
+                effect: Effect::Nothing,
+            };
+        }
+        if x.cur == 0 {
+            return Move::Damaged;
+        }
+        let want = want_of(x);
+        if self.split < want {
+            return comes(x, x.cur, x.next, Effect::Nothing);
+        }
+        if self.split == want {
+            return found(x);
+        }
+        not_found(x, Effect::Nothing)
+    }
+
+    fn f4(self) -> Move
+        ensures { λ r. ⌜ r ≡ f4 self ⌝ }
+    {
+        let mut x = self.worker;
+        if (x.prev == 0) | self.bad_link() {
+            return Move::Damaged;
+        }
+        if words::is_to(self.word, x.cur) {
+            if x.cur == 0 {
+                return Move::Damaged;
+            }
+            let unlink = Effect::Unlink {
+                prev: x.prev,
+                next: x.next,
+                node: x.cur,
+                busy: self.header.busy,
+            };
+            return comes(x, x.prev, x.next, unlink);
+        }
+        x.place = place::F1;
+        Move::Going {
+            worker: x,
+            effect: Effect::Nothing,
+        }
+    }
+
+    // One step's decision, at the record's place.
+    pub fn decide(self) -> Move
+        ensures { λ r. ⌜ r ≡ decided self ⌝ }
+    {
+        let place = self.worker.place;
+        match place {
+            place::I1 => self.i1(),
+            place::SZ => self.sz(),
+            place::TB => self.tb(),
+            place::B2 => self.b2(),
+            place::B4 => self.b4(),
+            place::F1 => self.f1(),
+            place::F2 => self.f2(),
+            place::F3 => self.f3(),
+            place::F4 => self.f4(),
+            place::L2 => self.l2(),
+            place::B8 => self.b8(),
+            place::I8 => self.i8(),
+            place::I9 => self.i9(),
+            place::I10 => self.i10(),
+            place::D4A => self.d4a(),
+            place::D4B => self.d4b(),
+            _ => self.d6(),
+        }
+    }
+}

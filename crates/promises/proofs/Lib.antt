@@ -1,0 +1,10 @@
+pub mod Figures
+pub mod Stores
+pub mod Shape
+pub mod Unchanged
+pub mod InRange
+pub mod Effects
+pub mod ReadsOnly
+pub mod WritesOnly
+pub mod OneAccess
+pub mod Wrong

@@ -1,0 +1,53 @@
+-- Each version and our step are computed at one small input, and one number of what they leave is not the same.
+-- Assumes nothing.
+use Prim.Native.Nat.{ℕ}
+use mathlib.Core.Bool.{true≢false}
+use mathlib.Core.Path.{_≡_, refl, ap}
+use native.Mathlib.Omega.{arith}
+use Rattle.choice.specs.Choice.{pick}
+use Rattle.split.specs.Split.{rev, reverse, regular, dummy, par, parentOf, climb, ancestors, among, onPath, powerBelow, powerOfTwo}
+use Rattle.words.specs.Words.{LINK, STANDING, word, put, bucket, store, linkWord, linkTo, isTo}
+use Rattle.sets.specs.Sets.{bit, isIn, dropped, raised}
+use Rattle.scans.specs.Scans.{leave, sweep, freeFrom, lowest}
+use Rattle.names.specs.Names.{numberOf}
+use Rattle.header.specs.Header.{powerUpTo, limitBroken, sizeBroken, busyBeyond, headerDamaged, doubles}
+use Rattle.record.specs.Worker.{begun, heldKey, heldDummy, unknownName, bucketBeyond, nodeBeyond, bitDisagrees, idleNotZero, kindMisfit, errandMisfit, makingAstray, sizeMisfit, workerDamaged}
+use Rattle.moves.specs.Moves.{badLink, heldFor, notFound, comes, f1, placed, l2, tb, b4, i1, sz, i8, i9, d4b, d6, decidedAt, decided}
+use Rattle.register.specs.declared.Outcome.{Outcome}
+use Rattle.register.specs.Step.{After, wordAt, wordFor, splitFor, closed, tick}
+use Rattle.register.specs.Calls.{isShort, startVerdict, startOf, stepVerdict, stepOf}
+use Rattle.promises.specs.Wrong
+
+-- our step at an input whose words are written out: all that it computes with
+ours : Wrong.Step
+unfolding
+    rev reverse regular dummy par parentOf climb ancestors among onPath powerBelow powerOfTwo word put bucket store linkWord
+    linkTo isTo bit isIn dropped leave sweep freeFrom lowest powerUpTo limitBroken sizeBroken busyBeyond headerDamaged doubles
+    heldKey heldDummy unknownName bucketBeyond nodeBeyond bitDisagrees idleNotZero kindMisfit errandMisfit makingAstray sizeMisfit
+    workerDamaged badLink heldFor notFound comes f1 placed l2 tb b4 i1 sz i8 i9 d4b d6 decidedAt decided wordAt wordFor splitFor
+    closed tick isShort stepVerdict stepOf pick
+ours = stepOf
+
+pub accepted : Wrong.Accepted
+unfolding ours
+accepted = record { insert = refl; make = refl; want = refl; unlink = refl; last = refl }
+
+pub caught : Wrong.Caught
+unfolding
+    ours startVerdict startOf begun raised Wrong.refusesAll Wrong.refusesStarts Wrong.saysYes Wrong.doesNothing Wrong.toTheEnd
+    Wrong.allAtOnce Wrong.inventsCount Wrong.inventsSteps Wrong.unsignedCount Wrong.freesAtOnce Wrong.storesEarly Wrong.restarting
+    Wrong.restartsOnSize
+caught =
+    record {
+      refuses = λ e. let z : _≡_ {A = ℕ} 12 0 = ap (λ (a : After). numberOf (a .out .answer)) e in omega arith;
+      refuses-start = λ e. let z : _≡_ {A = ℕ} 12 0 = ap (λ (o : Outcome). numberOf (o .answer)) e in omega arith;
+      yes-to-all = λ e. let z : _≡_ {A = ℕ} 1 0 = ap (λ (a : After). numberOf (a .out .answer)) e in omega arith;
+      nothing = λ e. let z : _≡_ {A = ℕ} 0 2147483648 = ap (λ (a : After). word (a .nodes) 7 STANDING) e in omega arith;
+      at-once = λ e. let z : _≡_ {A = ℕ} 14 0 = ap (λ (a : After). word (a .nodes) 1 LINK) e in omega arith;
+      count = λ e. let z : _≡_ {A = ℕ} 1 0 = ap (λ (a : After). a .out .header .count) e in omega arith;
+      steps = λ e. let z : _≡_ {A = ℕ} 9 8 = ap (λ (a : After). a .out .steps) e in omega arith;
+      unsigned = λ e. true≢false e;
+      frees = λ e. let z : _≡_ {A = ℕ} 0 3 = ap (λ (a : After). word (a .nodes) 7 STANDING) e in omega arith;
+      stores = λ e. let z : _≡_ {A = ℕ} 2 0 = ap (λ (a : After). bucket (a .buckets) 1) e in omega arith;
+      restarts = λ e. let z : _≡_ {A = ℕ} 2 6 = ap (λ (a : After). a .out .worker .place) e in omega arith;
+    }

@@ -1,0 +1,1 @@
+// What the definitions of one call promise. Statements and proofs; no code.

@@ -1,0 +1,18 @@
+-- Both tests are the definition's own.
+-- Assumes nothing.
+use Rattle.record.specs.Worker.{holds, heldKey, heldDummy}
+use Rattle.record.proofs.Worker.holds.Statement.{statement}
+use Rattle.record.proofs.Worker.holds.Tie as tie
+
+node-if-requires : tie.Need-node-if-requires
+node-if-requires c κs = tt
+
+node-if-requires-2 : tie.Need-node-if-requires-2
+node-if-requires-2 c κs = tt
+
+returns : tie.Need-returns
+unfolding heldKey heldDummy
+returns c = rw (c .node-if2 .ensures, c .before .node-if .ensures)
+
+pub holds-spec : {M : Type 1} → statement M
+holds-spec = tie.close (tie.spec node-if-requires node-if-requires-2 returns)

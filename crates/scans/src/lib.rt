@@ -1,0 +1,60 @@
+// The loops over the lent words: the lowest free node, the sweep of an ended operation, and the clearing of a new register.
+ghost use mathlib.Core.Path.{_≡_};
+ghost use Prim.Native.Nat.{_-_};
+ghost use Rattle.scans.specs.Scans.{leave, sweep, lowest, cleared};
+
+// The number before n, and 0 before 0.
+fn previous(n: u32) -> u32
+    ensures { λ r. ⌜ r ≡ n - 1 ⌝ }
+{
+    if n == 0 { 0 } else { n - 1 }
+}
+
+// A standing once worker w is waited for no more: a set of workers loses w, and a taken node stays taken.
+fn left(s: u32, w: u32) -> u32
+    ensures { λ r. ⌜ r ≡ leave w s ⌝ }
+{
+    if s <= words::LARGEST_SET {
+        sets::without(s, w)
+    } else {
+        s
+    }
+}
+
+// Worker w is waited for no more at nodes 1 to n: each standing there that is a set loses w.
+pub fn sweep(nodes: &mut [u32], n: u32, w: u32)
+    ensures { λ _. ⌜ now (nodes .exit) ≡ sweep w n (now (nodes .entry)) ⌝ }
+{
+    let mut i: u32 = 0;
+    while i < n {
+        i += 1;
+        let s = words::word(&nodes[..], i, words::STANDING);
+        let t = left(s, w);
+        words::put(&mut nodes[..], i, words::STANDING, t);
+    }
+}
+
+// The lowest free node of those from node from to node to; 0, which means nothing, where none is free.
+pub fn lowest(nodes: &[u32], from: u32, to: u32) -> u32
+    ensures { λ r. ⌜ r ≡ lowest (now (nodes .entry)) from to ⌝ }
+{
+    let mut n = previous(from);
+    while n < to {
+        n += 1;
+        if words::word(nodes, n, words::STANDING) == 0 {
+            return n;
+        }
+    }
+    0
+}
+
+// The first count words become 0, as the tables have to be before the register starts.
+pub fn clear(table: &mut [u32], count: u32)
+    ensures { λ _. ⌜ now (table .exit) ≡ cleared count (now (table .entry)) ⌝ }
+{
+    let mut i: u32 = 0;
+    while i < count {
+        words::store(&mut table[..], i, 0);
+        i += 1;
+    }
+}

@@ -1,0 +1,80 @@
+// Split order (figure 2): the keys by which the one list is kept in order, and the tree of the buckets.
+ghost use mathlib.Core.Path.{_≡_};
+ghost use Rattle.split.specs.Split.{reverse, regular, dummy, parentOf, onPath, nextDown, powerOfTwo};
+
+// The 32 bits of x in reverse, lowest bit first: the order in which recursive split-ordering compares keys.
+fn reverse(x: u32) -> u32
+    ensures { λ r. ⌜ r ≡ reverse x ⌝ }
+{
+    let mut r: u32 = 0;
+    let mut y = x;
+    let mut i: u32 = 0;
+    while i < 32 {
+        r = r * 2 + y % 2;
+        y = y / 2;
+        i += 1;
+    }
+    r
+}
+
+// A regular key's split key: the reversal of the key with its top bit set, so that it comes after its bucket's dummy.
+pub fn regular_key(key: u32) -> u32
+    ensures { λ r. ⌜ r ≡ regular key ⌝ }
+{
+    reverse(key % 2147483648 + 2147483648)
+}
+
+// A dummy's split key: the reversal of its bucket's number, so that it comes before all keys of the bucket.
+pub fn dummy_key(bucket: u32) -> u32
+    ensures { λ r. ⌜ r ≡ dummy bucket ⌝ }
+{
+    reverse(bucket)
+}
+
+// A bucket's parent, the bucket that it was split from: its number with the top set bit cleared.
+pub fn parent(bucket: u32) -> u32
+    ensures { λ r. ⌜ r ≡ parentOf bucket ⌝ }
+{
+    if bucket <= 1 {
+        return 0;
+    }
+    let p = parent(bucket / 2);
+    p * 2 + bucket % 2
+}
+
+// Is the ancestor on the path from the bucket to bucket 0, whose dummies are made before the bucket's own?
+pub fn on_path(bucket: u32, ancestor: u32) -> bool
+    ensures { λ r. ⌜ r ≡ onPath bucket ancestor ⌝ }
+{
+    if ancestor == bucket {
+        return true;
+    }
+    if bucket == 0 {
+        return false;
+    }
+    on_path(parent(bucket), ancestor)
+}
+
+// The bucket just below `making` on the path from the bucket to 0, whose dummy is made next; 0 where there is none.
+pub fn next_down(bucket: u32, making: u32) -> u32
+    ensures { λ r. ⌜ r ≡ nextDown bucket making ⌝ }
+{
+    if bucket == 0 {
+        return 0;
+    }
+    let p = parent(bucket);
+    if p == making {
+        return bucket;
+    }
+    next_down(p, making)
+}
+
+// Is x a power of two, as the number of buckets always is? Then it has one set bit, so its parent is 0.
+pub fn power_of_two(x: u32) -> bool
+    ensures { λ r. ⌜ r ≡ powerOfTwo x ⌝ }
+{
+    if x == 0 {
+        return false;
+    }
+    parent(x) == 0
+}

@@ -1,0 +1,45 @@
+-- What each effect leaves in the node words, the bucket words and the header.
+use Prim.Native.Nat.{ℕ}
+use mathlib.Core.Bool.{true, false}
+use mathlib.Core.List.{List}
+use Rattle.words.specs.Words.{SPLIT-KEY, LINK, STANDING, TAKEN, put, store, linkTo}
+use Rattle.header.specs.declared.Header.{Header}
+use Rattle.header.specs.Header.{sized, counted}
+use Rattle.moves.specs.declared.Effect.{Effect}
+use Rattle.moves.specs.declared.Effect.the-variants.{Nothing, Take, Free, Aim, Place, Mark, Unlink, Store, Count, Size}
+
+abbrev pub nodesAfter : Effect → List ℕ → List ℕ
+nodesAfter Nothing ns = ns
+nodesAfter (Take n split) ns = put (put ns n SPLIT-KEY split) n STANDING TAKEN
+nodesAfter (Free n) ns = put ns n STANDING 0
+nodesAfter (Aim n next) ns = put ns n LINK (linkTo next false)
+nodesAfter (Place n next prev) ns = put (put ns n LINK (linkTo next false)) prev LINK (linkTo n false)
+nodesAfter (Mark n next) ns = put ns n LINK (linkTo next true)
+nodesAfter (Unlink prev next n busy) ns = put (put ns prev LINK (linkTo next false)) n STANDING busy
+nodesAfter (Store b n) ns = ns
+nodesAfter (Count v) ns = ns
+nodesAfter (Size v) ns = ns
+
+abbrev pub bucketsAfter : Effect → List ℕ → List ℕ
+bucketsAfter Nothing bs = bs
+bucketsAfter (Take n split) bs = bs
+bucketsAfter (Free n) bs = bs
+bucketsAfter (Aim n next) bs = bs
+bucketsAfter (Place n next prev) bs = bs
+bucketsAfter (Mark n next) bs = bs
+bucketsAfter (Unlink prev next n busy) bs = bs
+bucketsAfter (Store b n) bs = store bs b n
+bucketsAfter (Count v) bs = bs
+bucketsAfter (Size v) bs = bs
+
+abbrev pub headerAfter : Effect → Header → Header
+headerAfter Nothing h = h
+headerAfter (Take n split) h = h
+headerAfter (Free n) h = h
+headerAfter (Aim n next) h = h
+headerAfter (Place n next prev) h = h
+headerAfter (Mark n next) h = h
+headerAfter (Unlink prev next n busy) h = h
+headerAfter (Store b n) h = h
+headerAfter (Count v) h = counted v h
+headerAfter (Size v) h = sized v h
