@@ -1,11 +1,7 @@
 -- Each contract says its result is one definition of the arguments, so two results that meet it are both that, and equal.
 -- Assumes nothing.
-use Prim.Native.Nat.{ℕ}
-use mathlib.Core.Path.{_≡_, sym, _∙_}
-use mathlib.Core.List.{List}
-use contract.Lifetimes.{Lfts}
-use denote.Triple.Clauses.{AtExit}
-use borrow.Fn.Kinds.{PK, RK, Dens, Out, resT, endedOf}
+use mathlib.Core.Path.{sym, _∙_}
+use Rattle.choice.proofs.Same.{Determined}
 use Rattle.split.proofs.regular_key.Reads as regular-key
 use Rattle.split.proofs.regular_key.Kinds as regular-key-kinds
 use Rattle.split.proofs.dummy_key.Reads as dummy-key
@@ -18,11 +14,6 @@ use Rattle.split.proofs.next_down.Reads as next-down
 use Rattle.split.proofs.next_down.Kinds as next-down-kinds
 use Rattle.split.proofs.power_of_two.Reads as power-of-two
 use Rattle.split.proofs.power_of_two.Kinds as power-of-two-kinds
-
--- two results that meet the contract Post on the same arguments are equal
-abbrev pub Determined : (n : ℕ) (ps : List (PK n)) (r : RK n) → Out n ps r → Type 0
-Determined n ps r Post =
-    (κs : Lfts n) (a : Dens κs ps) (x y : resT r κs .Denot) (e f : AtExit (endedOf n ps r) κs) → Post κs a x e → Post κs a y f → x ≡ y
 
 pub regular-key-same : Determined 0 regular-key-kinds.ps regular-key-kinds.r regular-key.Post
 regular-key-same κs a x y e f p q = p ∙ sym q
