@@ -28,6 +28,28 @@ passes : (a : Answer) (t : Bool) (later : Verdict) → pick t (Refused a) later 
 passes a true later e = let z : _≡_ {A = ℕ} 0 1 = cc (pick-true true (Refused a) later refl) in absurd (omega arith)
 passes a false later e = refl
 
+-- what the first three rows of a table refuse the table refuses, and what they pass the later rows decide
+module _ (s t u : Bool) (a b c : Answer) where
+  pub refused-first : (later : Verdict) (n : Answer) → pick s (Refused a) (pick t (Refused b) (pick u (Refused c) Pass)) ≡ Refused n → Refused n ≡ pick s (Refused a) (pick t (Refused b) (pick u (Refused c) later))
+  unfolding pick
+  refused-first later n = by s t u
+    where
+      by : (s t u : Bool) → pick s (Refused a) (pick t (Refused b) (pick u (Refused c) Pass)) ≡ Refused n → Refused n ≡ pick s (Refused a) (pick t (Refused b) (pick u (Refused c) later))
+      by true t u e = sym e
+      by false true u e = sym e
+      by false false true e = sym e
+      by false false false e = let z : _≡_ {A = ℕ} 0 1 = cc in absurd (omega arith)
+
+  pub passed-first : (later v : Verdict) → pick s (Refused a) (pick t (Refused b) (pick u (Refused c) Pass)) ≡ Pass → v ≡ later → v ≡ pick s (Refused a) (pick t (Refused b) (pick u (Refused c) later))
+  unfolding pick
+  passed-first later v = by s t u
+    where
+      by : (s t u : Bool) → pick s (Refused a) (pick t (Refused b) (pick u (Refused c) Pass)) ≡ Pass → v ≡ later → v ≡ pick s (Refused a) (pick t (Refused b) (pick u (Refused c) later))
+      by true t u e f = let z : _≡_ {A = ℕ} 0 1 = cc in absurd (omega arith)
+      by false true u e f = let z : _≡_ {A = ℕ} 0 1 = cc in absurd (omega arith)
+      by false false true e f = let z : _≡_ {A = ℕ} 0 1 = cc in absurd (omega arith)
+      by false false false e f = f
+
 limits-small : (h : Header) → Limited h → nodesOf h ≤ 5136
 limits-small h l = omega (arith, l .buckets .1, l .keys .1, l .workers .1)
 

@@ -64,6 +64,16 @@ preparedBy l h ns bs Pass =
 unfoldable pub prepared : Limits → Header → List ℕ → List ℕ → Kept
 prepared l h ns bs = preparedBy l h ns bs (prepareVerdict l (length ns) (length bs))
 
+-- ---- what a start and a step check first: 12, 11, 13
+unfoldable pub callVerdict : Turn → ℕ → ℕ → Verdict
+callVerdict t nodes buckets =
+    firstOf
+    (refuses Damaged (headerDamaged (t .header))
+    ∷ refuses Short (isShort (t .header) nodes buckets)
+    ∷ refuses NoWorker (leb (t .header .w) (t .number))
+    ∷ [])
+    Pass
+
 -- ---- starting: 12, 11, 13, 17, 14, 12, 15
 unfoldable pub startVerdict : Turn → ℕ → ℕ → ℕ → ℕ → Verdict
 startVerdict t kind key nodes buckets =

@@ -3,7 +3,7 @@ ghost use mathlib.Core.Path.{_≡_};
 ghost use Prim.Native.Nat.{_<_};
 ghost use lib.ListN.{length};
 ghost use Rattle.header.specs.Header.{nodesOf};
-ghost use Rattle.register.specs.Calls.{isShort, freshHeader, prepareVerdict, prepared, startVerdict, startOf, stepVerdict, stepOf, kept};
+ghost use Rattle.register.specs.Calls.{isShort, freshHeader, prepareVerdict, prepared, callVerdict, startVerdict, startOf, stepVerdict, stepOf, kept};
 ghost use Rattle.register.specs.Step.{refusedWith, after, Small, wordFor, seenBy, tick, ending, closed, carried};
 use header::Header;
 use moves::Effect;
@@ -133,9 +133,9 @@ impl Turn {
         }
     }
 
-    // 12, 11, 13, 17, 14, 12, 15.
-    fn start_verdict(self, kind: u32, key: u32, nodes: usize, buckets: usize) -> Verdict
-        ensures { λ r. ⌜ r ≡ startVerdict self kind key nodes buckets ⌝ }
+    // 12, 11, 13: what a start and a step check first.
+    fn call_verdict(self, nodes: usize, buckets: usize) -> Verdict
+        ensures { λ r. ⌜ r ≡ callVerdict self nodes buckets ⌝ }
     {
         if self.header.damaged() {
             return Verdict::Refused(Answer::Damaged);
@@ -145,6 +145,17 @@ impl Turn {
         }
         if self.header.w <= self.number {
             return Verdict::Refused(Answer::NoWorker);
+        }
+        Verdict::Pass
+    }
+
+    // Then 17, 14, 12, 15.
+    fn start_verdict(self, kind: u32, key: u32, nodes: usize, buckets: usize) -> Verdict
+        ensures { λ r. ⌜ r ≡ startVerdict self kind key nodes buckets ⌝ }
+    {
+        let first = self.call_verdict(nodes, buckets);
+        if let Verdict::Refused(answer) = first {
+            return Verdict::Refused(answer);
         }
         if (kind < kind::INSERT) | (kind::DELETE < kind) {
             return Verdict::Refused(Answer::NoKind);
@@ -182,18 +193,13 @@ impl Turn {
         }
     }
 
-    // 12, 11, 13, 12, 16.
+    // Then 12, 16.
     fn step_verdict(self, nodes: usize, buckets: usize) -> Verdict
         ensures { λ r. ⌜ r ≡ stepVerdict self nodes buckets ⌝ }
     {
-        if self.header.damaged() {
-            return Verdict::Refused(Answer::Damaged);
-        }
-        if is_short(self.header, nodes, buckets) {
-            return Verdict::Refused(Answer::Short);
-        }
-        if self.header.w <= self.number {
-            return Verdict::Refused(Answer::NoWorker);
+        let first = self.call_verdict(nodes, buckets);
+        if let Verdict::Refused(answer) = first {
+            return Verdict::Refused(answer);
         }
         if self.worker.damaged(self.header, self.number) {
             return Verdict::Refused(Answer::Damaged);
