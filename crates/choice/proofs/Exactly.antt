@@ -5,7 +5,7 @@ use mathlib.Core.Logic.{_⊎_, inl, inr, ⊎-elim, _↔_}
 use mathlib.Core.Bool.{Bool, true, false, true≢false, _||_, _&&_, not}
 use mathlib.Core.List.{List, [], _∷_}
 use Rattle.choice.specs.Choice.{pick}
-use Rattle.choice.specs.Table.{Row, firstOf, Claims, done, row, SaidBy}
+use Rattle.choice.specs.Table.{Row, firstOf, Claims, done, row, SaidBy, RefusedBy}
 use Rattle.choice.proofs.Auto.{pick-true, pick-false}
 
 -- the test is true exactly where the claim holds
@@ -48,3 +48,31 @@ exactly (r ∷ rs) (row claim says rest) otherwise a tell = by-test (r .test) re
           (λ h. absurd (fails (tell .0) f (h .0)))
           (λ h. later f ∙ ih .1 (h .1)),
     )
+
+-- what is given is what the first row that holds says, and it is fine where none holds
+pub data Gives {A : Type 0} (Fine : A → Type 0) (given : A) : Claims A → Type 1 where
+  fine : Fine given → Gives Fine given done
+  here : {claim : Type 0} {says : A} {rest : Claims A} → claim → says ≡ given → Gives Fine given (row claim says rest)
+  later : {claim : Type 0} {says : A} {rest : Claims A} → (claim → ⊥) → Gives Fine given rest → Gives Fine given (row claim says rest)
+
+-- then what is not fine is given exactly where its row holds and no earlier row does
+pub refused-exactly :
+    {A : Type 0} {claims : Claims A} {Fine : A → Type 0} {given : A} (a : A) → Gives Fine given claims → (Fine a → ⊥)
+    → (given ≡ a) ↔ RefusedBy claims a
+refused-exactly a (fine f) wrong = (λ e. wrong (rw (← e) f), λ n. absurd n)
+refused-exactly a (here c e) wrong = (
+  λ q. inl (c, e ∙ q),
+  ⊎-elim (λ r. sym e ∙ r .1) (λ r. absurd (r .0 c)),
+)
+refused-exactly a (later n g) wrong = (
+  λ q. inr (n, refused-exactly a g wrong .0 q),
+  ⊎-elim (λ r. absurd (n (r .0))) (λ r. refused-exactly a g wrong .1 (r .1)),
+)
+
+-- the first test of a chain of choices is the first row; `answer` is what a choice answers
+pub gives-row :
+    {A B : Type 0} (answer : B → A) {Fine : A → Type 0} {claim : Type 0} {says : A} {rest : Claims A} {t : Bool} {b c : B} → Tells t claim
+    → says ≡ answer b → ((claim → ⊥) → Gives Fine (answer c) rest) → Gives Fine (answer (pick t b c)) (row claim says rest)
+unfolding pick
+gives-row answer {t = true} tells e on = here (tells .sound refl) e
+gives-row answer {t = false} tells e on = later (fails tells refl) (on (fails tells refl))

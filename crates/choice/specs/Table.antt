@@ -24,3 +24,8 @@ pub data Claims (A : Type 0) : Type 1 where
 abbrev pub SaidBy : {A : Type 0} → Claims A → A → A → Type 0
 SaidBy done otherwise a = a ≡ otherwise
 SaidBy (row claim says rest) otherwise a = (claim × (says ≡ a)) ⊎ ((claim → ⊥) × SaidBy rest otherwise a)
+
+-- a refuses exactly because its row holds and no earlier row does
+abbrev pub RefusedBy : {A : Type 0} → Claims A → A → Type 0
+RefusedBy done a = ⊥
+RefusedBy (row claim says rest) a = (claim × (says ≡ a)) ⊎ ((claim → ⊥) × RefusedBy rest a)

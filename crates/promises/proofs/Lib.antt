@@ -1,4 +1,5 @@
 pub mod Figures
+pub mod Fresh
 pub mod Stores
 pub mod Shape
 pub mod Unchanged
@@ -7,4 +8,6 @@ pub mod Effects
 pub mod ReadsOnly
 pub mod WritesOnly
 pub mod OneAccess
+pub mod WordsRead
+pub mod Refusals
 pub mod Wrong
