@@ -1,0 +1,397 @@
+// The workers' records side by side in one lent table: a record is taken out by value, the register's own start or step is called on it, and it is stored back.
+ghost use mathlib.Core.Path.{_≡_};
+ghost use Prim.Native.Nat.{_≤_};
+ghost use lib.ListN.{length};
+ghost use Rattle.register.specs.Step.{after};
+ghost use Rattle.crew.specs.Crew.{left, turn, refused, tooFew, filled, tooFewFor, stepAt, stepsAt, startAt, prepareAt};
+ghost use Rattle.crew.specs.One.{pastOf, apart, outcome, stepOne, stepsOne, startOne, wants, wanted, prepareOne};
+use header::Header;
+use names::Answer;
+use record::Worker;
+use register::Limits;
+use register::Outcome;
+use register::Prepared;
+use register::Turn;
+
+// What a call over the table hands back; an ended answer gives the operation's steps.
+pub struct Called {
+    pub answer: Answer,
+    pub steps: u32,
+    pub header: Header,
+}
+
+// What one worker's call hands back, and the record to store in the place of its own.
+pub struct Served {
+    pub called: Called,
+    pub worker: Worker,
+}
+
+// What preparing hands back by value, and the records that it wants: the first `count` as `worker`.
+pub struct Ready {
+    pub called: Called,
+    pub count: usize,
+    pub worker: Worker,
+}
+
+// The table by value, with what the call hands back.
+pub struct Bank {
+    pub called: Called,
+    pub workers: [Worker; 16],
+}
+
+// A refused call hands the header back as it came.
+fn refused(answer: Answer, header: Header) -> Called
+    ensures { λ r. ⌜ r ≡ refused answer header ⌝ }
+{
+    Called {
+        answer,
+        steps: 0,
+        header,
+    }
+}
+
+// A worker past the table: 12, 11, 13.
+fn past(header: Header, len: usize, nodes: usize, buckets: usize) -> Called
+    ensures { λ r. ⌜ r ≡ refused (pastOf header len nodes buckets) header ⌝ }
+{
+    if header.damaged() {
+        return refused(Answer::Damaged, header);
+    }
+    let short = ((nodes as u64) < header.nodes() * 3) | ((buckets as u64) < (header.m as u64));
+    if ((len as u64) < (header.w as u64)) | short {
+        return refused(Answer::Short, header);
+    }
+    refused(Answer::NoWorker, header)
+}
+
+// 12, then 11: there are fewer records than W.
+fn too_few(header: Header) -> Answer
+    ensures { λ r. ⌜ r ≡ tooFew header ⌝ }
+{
+    if header.damaged() {
+        return Answer::Damaged;
+    }
+    Answer::Short
+}
+
+// What the register hands back, the record apart.
+fn apart(out: Outcome) -> Served
+    ensures { λ r. ⌜ r ≡ apart out ⌝ }
+{
+    let answer = out.answer;
+    let header = out.header;
+    let worker = out.worker;
+    let called = Called {
+        answer,
+        steps: out.steps,
+        header,
+    };
+    Served { called, worker }
+}
+
+// One step with the record in hand, where there are `len` records.
+fn step_one(
+    worker: Worker,
+    len: usize,
+    w: u32,
+    header: Header,
+    nodes: &mut [u32],
+    buckets: &mut [u32],
+) -> Served
+    ensures { λ r. ⌜ after (outcome r) (now (nodes .exit)) (now (buckets .exit)) ≡ stepOne (turn header w worker) len (now (nodes .entry)) (now (buckets .entry)) ⌝ }
+{
+    if (len as u64) < (header.w as u64) {
+        let answer = too_few(header);
+        let called = refused(answer, header);
+        return Served { called, worker };
+    }
+    let turn = Turn {
+        number: w,
+        header,
+        worker,
+    };
+    let out = turn.step(nodes, buckets);
+    apart(out)
+}
+
+// A start with the record in hand, where there are `len` records.
+fn start_one(
+    worker: Worker,
+    len: usize,
+    w: u32,
+    header: Header,
+    kind: u32,
+    key: u32,
+    nodes: &mut [u32],
+    buckets: &mut [u32],
+) -> Served
+    ensures { λ r. ⌜ after (outcome r) (now (nodes .exit)) (now (buckets .exit)) ≡ startOne (turn header w worker) len kind key (now (nodes .entry)) (now (buckets .entry)) ⌝ }
+{
+    if (len as u64) < (header.w as u64) {
+        let answer = too_few(header);
+        let called = refused(answer, header);
+        return Served { called, worker };
+    }
+    let turn = Turn {
+        number: w,
+        header,
+        worker,
+    };
+    let out = turn.start(kind, key, &nodes[..], &buckets[..]);
+    apart(out)
+}
+
+// 10, then 11: there are fewer records than the W that is asked for.
+fn too_few_for(limits: Limits) -> Answer
+    ensures { λ r. ⌜ r ≡ tooFewFor limits ⌝ }
+{
+    let fresh = Header {
+        m: limits.m,
+        k: limits.k,
+        w: limits.w,
+        l: limits.l,
+        size: 2,
+        count: 0,
+        busy: 0,
+    };
+    if fresh.limit_broken() {
+        return Answer::Limit;
+    }
+    Answer::Short
+}
+
+// A prepared register wants W idle records, a refused one none.
+fn wants(w: u32, out: Prepared) -> Ready
+    ensures { λ r. ⌜ r ≡ wants w out ⌝ }
+{
+    let answer = out.answer;
+    let header = out.header;
+    let called = Called {
+        answer,
+        steps: 0,
+        header,
+    };
+    let worker = Worker::idle();
+    if answer.number() == 0 {
+        return Ready {
+            called,
+            count: w as usize,
+            worker,
+        };
+    }
+    Ready {
+        called,
+        count: 0,
+        worker,
+    }
+}
+
+// Preparing where there are `len` records: 10, then 11.
+fn prepare_one(
+    limits: Limits,
+    len: usize,
+    header: Header,
+    nodes: &mut [u32],
+    buckets: &mut [u32],
+) -> Ready
+    ensures { λ r. ⌜ wanted r (now (nodes .exit)) (now (buckets .exit)) ≡ prepareOne limits len header (now (nodes .entry)) (now (buckets .entry)) ⌝ }
+{
+    if (len as u64) < (limits.w as u64) {
+        let answer = too_few_for(limits);
+        return wants(limits.w, Prepared { answer, header });
+    }
+    let out = limits.prepare(header, nodes, buckets);
+    wants(limits.w, out)
+}
+
+// One step of worker w, on its record in the table.
+pub fn step(
+    workers: &mut [Worker],
+    w: u32,
+    header: Header,
+    nodes: &mut [u32],
+    buckets: &mut [u32],
+) -> Called
+    ensures { λ r. ⌜ left r (now (workers .exit)) (now (nodes .exit)) (now (buckets .exit)) ≡ stepAt header (now (workers .entry)) w (now (nodes .entry)) (now (buckets .entry)) ⌝ }
+{
+    let len = workers.len();
+    let at = w as usize;
+    if len <= at {
+        return past(header, len, nodes.len(), buckets.len());
+    }
+    let out = step_one(workers[at], len, w, header, nodes, buckets);
+    workers[at] = out.worker;
+    out.called
+}
+
+// A step with the record in hand and up to so many more, ending after the first whose answer isn't 0.
+fn steps_one(
+    worker: Worker,
+    len: usize,
+    w: u32,
+    header: Header,
+    more: u32,
+    nodes: &mut [u32],
+    buckets: &mut [u32],
+) -> Served
+    ensures { λ r. ⌜ after (outcome r) (now (nodes .exit)) (now (buckets .exit)) ≡ stepsOne (turn header w worker) len more (now (nodes .entry)) (now (buckets .entry)) ⌝ }
+{
+    let mut out = step_one(worker, len, w, header, nodes, buckets);
+    let mut left = more;
+    while 0 < left {
+        let called = out.called;
+        let answer = called.answer;
+        if answer.number() != 0 {
+            return out;
+        }
+        out = step_one(out.worker, len, w, called.header, nodes, buckets);
+        left -= 1;
+    }
+    out
+}
+
+// One step of worker w and up to so many more, on its record in the table.
+pub fn steps(
+    workers: &mut [Worker],
+    w: u32,
+    header: Header,
+    more: u32,
+    nodes: &mut [u32],
+    buckets: &mut [u32],
+) -> Called
+    ensures { λ r. ⌜ left r (now (workers .exit)) (now (nodes .exit)) (now (buckets .exit)) ≡ stepsAt header (now (workers .entry)) w more (now (nodes .entry)) (now (buckets .entry)) ⌝ }
+{
+    let len = workers.len();
+    let at = w as usize;
+    if len <= at {
+        return past(header, len, nodes.len(), buckets.len());
+    }
+    let out = steps_one(workers[at], len, w, header, more, nodes, buckets);
+    workers[at] = out.worker;
+    out.called
+}
+
+// The first n records become x.
+fn fill(workers: &mut [Worker], n: usize, x: Worker)
+    requires { ⌜ n ≤ length (now workers) ⌝ }
+    ensures { λ _. ⌜ now (workers .exit) ≡ filled n x (now (workers .entry)) ⌝ }
+{
+    let mut i: usize = 0;
+    while i < n {
+        workers[i] = x;
+        i += 1;
+    }
+}
+
+// A register over the lent tables: its W records are idle, and those past W stay.
+pub fn prepare(
+    workers: &mut [Worker],
+    limits: Limits,
+    header: Header,
+    nodes: &mut [u32],
+    buckets: &mut [u32],
+) -> Called
+    ensures { λ r. ⌜ left r (now (workers .exit)) (now (nodes .exit)) (now (buckets .exit)) ≡ prepareAt limits header (now (workers .entry)) (now (nodes .entry)) (now (buckets .entry)) ⌝ }
+{
+    let len = workers.len();
+    let ready = prepare_one(limits, len, header, nodes, buckets);
+    fill(workers, ready.count, ready.worker);
+    ready.called
+}
+
+// Worker w starts an operation, on its record in the table.
+pub fn start(
+    workers: &mut [Worker],
+    w: u32,
+    header: Header,
+    kind: u32,
+    key: u32,
+    nodes: &mut [u32],
+    buckets: &mut [u32],
+) -> Called
+    ensures { λ r. ⌜ left r (now (workers .exit)) (now (nodes .exit)) (now (buckets .exit)) ≡ startAt header (now (workers .entry)) w kind key (now (nodes .entry)) (now (buckets .entry)) ⌝ }
+{
+    let len = workers.len();
+    let at = w as usize;
+    if len <= at {
+        return past(header, len, nodes.len(), buckets.len());
+    }
+    let out = start_one(workers[at], len, w, header, kind, key, nodes, buckets);
+    workers[at] = out.worker;
+    out.called
+}
+
+// The table by value, lent for a preparing and taken back.
+pub fn prepare_bank(
+    workers: [Worker; 16],
+    limits: Limits,
+    header: Header,
+    nodes: &mut [u32],
+    buckets: &mut [u32],
+) -> Bank
+    ensures { λ r. ⌜ left (r .called) (r .workers) (now (nodes .exit)) (now (buckets .exit)) ≡ prepareAt limits header workers (now (nodes .entry)) (now (buckets .entry)) ⌝ }
+{
+    let mut prepared = workers;
+    let called = prepare(&mut prepared, limits, header, nodes, buckets);
+    Bank {
+        called,
+        workers: prepared,
+    }
+}
+
+// The table by value, lent for a start and taken back.
+pub fn start_bank(
+    workers: [Worker; 16],
+    w: u32,
+    header: Header,
+    kind: u32,
+    key: u32,
+    nodes: &mut [u32],
+    buckets: &mut [u32],
+) -> Bank
+    ensures { λ r. ⌜ left (r .called) (r .workers) (now (nodes .exit)) (now (buckets .exit)) ≡ startAt header workers w kind key (now (nodes .entry)) (now (buckets .entry)) ⌝ }
+{
+    let mut started = workers;
+    let called = start(&mut started, w, header, kind, key, nodes, buckets);
+    Bank {
+        called,
+        workers: started,
+    }
+}
+
+// The table by value, lent for a step and taken back.
+pub fn step_bank(
+    workers: [Worker; 16],
+    w: u32,
+    header: Header,
+    nodes: &mut [u32],
+    buckets: &mut [u32],
+) -> Bank
+    ensures { λ r. ⌜ left (r .called) (r .workers) (now (nodes .exit)) (now (buckets .exit)) ≡ stepAt header workers w (now (nodes .entry)) (now (buckets .entry)) ⌝ }
+{
+    let mut stepped = workers;
+    let called = step(&mut stepped, w, header, nodes, buckets);
+    Bank {
+        called,
+        workers: stepped,
+    }
+}
+
+// The table by value, lent for several steps and taken back.
+pub fn steps_bank(
+    workers: [Worker; 16],
+    w: u32,
+    header: Header,
+    more: u32,
+    nodes: &mut [u32],
+    buckets: &mut [u32],
+) -> Bank
+    ensures { λ r. ⌜ left (r .called) (r .workers) (now (nodes .exit)) (now (buckets .exit)) ≡ stepsAt header workers w more (now (nodes .entry)) (now (buckets .entry)) ⌝ }
+{
+    let mut moved = workers;
+    let called = steps(&mut moved, w, header, more, nodes, buckets);
+    Bank {
+        called,
+        workers: moved,
+    }
+}

@@ -1,0 +1,83 @@
+-- `lines::put_ended` meets its contract: both tests are those of the definition, and each part is laid right after the one before.
+-- Assumes nothing.
+use Prim.Native.Nat.{ℕ}
+use mathlib.Core.Bool.{Bool, _&&_}
+use mathlib.Core.Path.{_≡_, sym, ap, _∙_}
+use borrow.Author.Needs.{needs}
+use Rattle.lines.specs.Lines.{endedLine}
+use Rattle.lines.proofs.Laying.{laid-on, laid-as, laid-none}
+use Rattle.lines.proofs.Joined.{ended-joined, ended-none}
+use Rattle.lines.proofs.put_ended.Statement.{statement}
+use Rattle.lines.proofs.put_ended.Tie as tie
+
+-- two tests that are known, joined
+both-of : {a b x y : Bool} → a ≡ x → b ≡ y → a && b ≡ x && y
+both-of e g = rw (e, g)
+
+number-requires : tie.Need-number-requires
+number-requires c κs = search needs
+
+kind-named-requires : tie.Need-kind-named-requires
+kind-named-requires c κs = search needs
+
+answer-named-requires : tie.Need-answer-named-requires
+answer-named-requires c κs = search needs
+
+put-field-requires : tie.Need-put-field-requires
+put-field-requires c κs = search needs
+
+put-kind-requires : tie.Need-put-kind-requires
+put-kind-requires c κs = search needs
+
+put-field-requires-2 : tie.Need-put-field-requires-2
+put-field-requires-2 c κs = search needs
+
+put-answer-requires : tie.Need-put-answer-requires
+put-answer-requires c κs = search needs
+
+put-field-requires-3 : tie.Need-put-field-requires-3
+put-field-requires-3 c κs = search needs
+
+within-requires : tie.Need-within-requires
+within-requires c κs = search needs
+
+same-length : tie.Need-same-length
+same-length c = search needs
+
+returns : tie.Need-returns
+returns c =
+    let e = c .before .before in
+    let d = e .before .before .before .before in
+    let c = d .before .before .before .before in
+    let b = c .before .before .before .before in
+    let a = b .before .before .before .before in
+    let i = a .before .before in
+    let n = i .before .before .before .number in
+    let s = i .before .before .before .before .before .args in
+    laid-as (ended-joined (s .worker) (s .kind) (s .key) (n .result) (s .steps) (sym (both-of (i .before .before .kind-named .ensures) (i .before .answer-named .ensures)) ∙ i .if1 .taken) ∙ ap (λ (m : ℕ). endedLine (s .worker) (s .kind) (s .key) m (s .steps)) (n .ensures))
+    (laid-on (laid-on (laid-on (laid-on (a .put-field .ensures) (b .put-kind .ensures)) (c .put-field2 .ensures)) (d .put-answer .ensures)) (e .put-field3 .ensures))
+
+returns-2 : tie.Need-returns-2
+returns-2 c =
+    let i = c .before in
+    let n = i .before .before .before .number in
+    let s = i .before .before .before .before .before .args in
+    laid-as (ended-none (s .worker) (s .kind) (s .key) (n .result) (s .steps) (sym (both-of (i .before .before .kind-named .ensures) (i .before .answer-named .ensures)) ∙ i .if1 .left) ∙ ap (λ (m : ℕ). endedLine (s .worker) (s .kind) (s .key) m (s .steps)) (n .ensures))
+    (laid-none (s .out .now) (s .at) (c .within .result) (c .within .ensures))
+
+pub put-ended-spec : {M : Type 1} → statement M
+put-ended-spec =
+    tie.close
+    (tie.spec
+    number-requires
+    kind-named-requires
+    answer-named-requires
+    put-field-requires
+    put-kind-requires
+    put-field-requires-2
+    put-answer-requires
+    put-field-requires-3
+    within-requires
+    same-length
+    returns
+    returns-2)
