@@ -2,7 +2,8 @@
 
     let mut table = workers;
     let called = CALL(&mut table, .., nodes, buckets);
-    Bank { called, workers: table }
+    let left = table;
+    Bank { called, workers: left }
 """
 from held import Held, allocated, closed, fill, listed, locals_held, nest, slot
 from params import LENT, ROOMS, TOKENS, WORDS, arg_type, binders, entry, entry_facts, facts, joined, last, plain, units, val_type
@@ -15,7 +16,7 @@ class Bank:
         self.whole = whole.split()[0]
         count = 1 + len(self.values) + 2
         self.nodes, self.buckets = count - 1, count
-        self.table, self.called, self.ref, self.slice, self.ref1, self.slice1, self.ref2, self.slice2, self.copy = range(count + 1, count + 10)
+        self.table, self.called, self.copy, self.ref, self.slice, self.ref1, self.slice1, self.ref2, self.slice2 = range(count + 1, count + 10)
         self.count = count + 10
         self.slot = slot(self.table)
         self.lent = f"(x ν {self.slot} γ)"

@@ -86,7 +86,7 @@ class Thin:
         held.front("obs", "borrow", "token")
         held.say("opens-slice ! tt rowW ys b o $")
         held.turn(3, ["row", "open-borrow", "obs", "auth"])
-        held.say(f"elem-out ! rowW (Is rowW) (shows 𝓤 H A rowW) (LL.vals tyW.the-type lawW.the-laws) (LL.tells tyW.the-type lawW.the-laws) fullShare ys w idle b o {INSIDE} (λ g.\n")
+        held.say(f"takes-record ! ys w b o {INSIDE} (λ g.\n")
         held.turn(1, ["record", "own-record", "others-in-row"])
         held.copy(self.worker, f"load ! (from ! (hop ! (look ! {held.cell(self.ptr)} refl) (stop !))) (look-raw ! {held.at('record')} refl)", "(typedW 𝓤 H A W elem g)")
         held.relend(self.ref1, self.slice1, self.nodes, "g₁ .0")

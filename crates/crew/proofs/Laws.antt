@@ -1,6 +1,6 @@
 -- The register's own calls refuse a worker that is W or above, so past the table nothing changes; and a record that is stored back as it came changes nothing.
 -- Assumes nothing.
-use Prim.Native.Nat.{ℕ, zero, suc, _-_, _≤_, _<_}
+use Prim.Native.Nat.{ℕ, zero, suc, _≤_, _-_, _<_}
 use native.Mathlib.Omega.{arith}
 use native.Mathlib.Decide.{decLt}
 use mathlib.Core.Path.{_≡_, refl, sym, ap, subst, _∙_}
@@ -9,9 +9,9 @@ use mathlib.Core.List.{List}
 use lib.Dec.{ltb, leb, eqb}
 use lib.ListN.{length, getD, set, length-set}
 use lib.Seq.{set-getD, set-set, getD-set-same}
-use borrow.Author.Tests.{le-leb, ne-eqb, ltb-true, ltb-false}
+use borrow.Author.Tests.{le-leb, ltb-false, ne-eqb, ltb-true}
 use Rattle.choice.specs.Choice.{pick}
-use Rattle.choice.proofs.Auto.{pick-true, pick-false}
+use Rattle.choice.proofs.Auto.{pick-false, pick-true}
 use Rattle.choice.proofs.Cases.{by-bool, both}
 use Rattle.names.specs.Names.{numberOf}
 use Rattle.names.specs.declared.Answer.{Answer}
@@ -23,15 +23,13 @@ use Rattle.record.specs.Worker.{idle}
 use Rattle.register.specs.declared.Limits.{Limits}
 use Rattle.register.specs.declared.Turn.{Turn}
 use Rattle.register.specs.declared.Outcome.{Outcome}
-use Rattle.register.specs.declared.Prepared.{Prepared}
 use Rattle.register.specs.declared.Verdict.{Verdict}
-use Rattle.register.specs.declared.Verdict.the-variants.{Pass, Refused}
+use Rattle.register.specs.declared.Verdict.the-variants.{Refused}
 use Rattle.register.specs.Step.{After, after, refusedWith}
 use Rattle.register.specs.Calls.{Kept, isShort, freshHeader, prepared, startedBy, startVerdict, startOf, steppedBy, stepVerdict, stepOf}
-use Rattle.crew.specs.declared.Called.{Called}
 use Rattle.crew.specs.declared.Ready.{Ready}
-use Rattle.crew.specs.Crew.{Left, left, refused, called, turn, turnAt, stored, tooFew, stepAt, startAt, going, moreAt, stepsAt, filled, ready, tooFewFor, prepareAt}
-use Rattle.crew.specs.One.{pastOf, stepOne, startOne, moreOne, stepsOne, wants, Wanted, wanted, prepareOne}
+use Rattle.crew.specs.Crew.{Left, left, refused, called, turnAt, stored, tooFew, stepAt, startAt, filled, ready, tooFewFor, prepareAt, turn, going, moreAt, stepsAt}
+use Rattle.crew.specs.One.{pastOf, stepOne, startOne, wants, Wanted, wanted, prepareOne, moreOne, stepsOne}
 
 -- the first three rows of a start and of a step, where the third holds
 three : (d s n : Bool) (later : Verdict) → n ≡ true → pick d (Refused Damaged) (pick s (Refused Short) (pick n (Refused NoWorker) later)) ≡ Refused (pick d Damaged (pick s Short NoWorker))

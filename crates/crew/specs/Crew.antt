@@ -17,7 +17,7 @@ use Rattle.register.specs.declared.Turn.{Turn}
 use Rattle.register.specs.declared.Outcome.{Outcome}
 use Rattle.register.specs.declared.Prepared.{Prepared}
 use Rattle.register.specs.Step.{After, after}
-use Rattle.register.specs.Calls.{Kept, freshHeader, prepared, startOf, stepOf}
+use Rattle.register.specs.Calls.{freshHeader, prepared, startOf, stepOf}
 use Rattle.crew.specs.declared.Called.{Called}
 
 -- all that a call leaves: what it hands back, the records, and the two lent tables of words

@@ -333,9 +333,10 @@ pub fn prepare_bank(
 {
     let mut prepared = workers;
     let called = prepare(&mut prepared, limits, header, nodes, buckets);
+    let left = prepared;
     Bank {
         called,
-        workers: prepared,
+        workers: left,
     }
 }
 
@@ -353,9 +354,10 @@ pub fn start_bank(
 {
     let mut started = workers;
     let called = start(&mut started, w, header, kind, key, nodes, buckets);
+    let left = started;
     Bank {
         called,
-        workers: started,
+        workers: left,
     }
 }
 
@@ -371,9 +373,10 @@ pub fn step_bank(
 {
     let mut stepped = workers;
     let called = step(&mut stepped, w, header, nodes, buckets);
+    let left = stepped;
     Bank {
         called,
-        workers: stepped,
+        workers: left,
     }
 }
 
@@ -390,8 +393,9 @@ pub fn steps_bank(
 {
     let mut moved = workers;
     let called = steps(&mut moved, w, header, more, nodes, buckets);
+    let left = moved;
     Bank {
         called,
-        workers: moved,
+        workers: left,
     }
 }

@@ -1,7 +1,7 @@
 -- The borrow of the table is opened once, before the loop, and closed once, after it: after i turns the row is the table with its first i records filled.
 -- Assumes nothing.
 use mathlib.Core.Path.{_≡_, refl, sym, _∙_, ap, subst}
-use Prim.Native.Nat.{ℕ, zero, suc, _+_, _*_, _<_, _≤_, _^_}
+use Prim.Native.Nat.{ℕ, zero, suc, _+_, _<_, _≤_, _^_}
 use native.Mathlib.Nat.{add-zero, add-suc, suc-add, zero-add, lt-irrefl, lt-suc-self}
 use native.Mathlib.Omega.{arith}
 use mathlib.Core.Bool.{Bool, true, false}

@@ -28,7 +28,7 @@ use denote.Plain.{uint-makes, uint-vals, uint-tells}
 use denote.Ref.{RefT, now}
 use denote.Slice.{sliceVal, MutSlice, heres, Room, finally, res-finally, slice-vals, mut-slice-tells, at-slice, codedHoleys}
 use denote.Lend.{Held}
-use denote.Index.{place-is, elem-out, elem-put, opens-slice, closes-slice}
+use denote.Index.{place-is, elem-put, opens-slice, closes-slice}
 use denote.Signature.{plain}
 use denote.Builtin.{u32, usize}
 use denote.Steps.{only, nothing, owned, peeks, heard}
@@ -51,7 +51,7 @@ use Rattle.crew.specs.Crew.{left, refused, turn, stepAt}
 use Rattle.crew.specs.One.{pastOf, outcome, stepOne}
 use Rattle.crew.proofs.Laws.{step-past, step-in}
 use Rattle.crew.proofs.Walk as Shared
-use Rattle.crew.proofs.Walk.{full, room, leaves, rowW, machW, machH, machC, fits-at, wide, of-called, record-of, called-of, places, typedW, typedH, typedC}
+use Rattle.crew.proofs.Walk.{full, room, leaves, takes-record, rowW, machW, machH, machC, fits-at, wide, of-called, record-of, called-of, places, typedW, typedH, typedC}
 use Rattle.record.proofs.Worker as tyW
 use Rattle.record.proofs.Worker.Laws as lawW
 use Rattle.header.proofs.Header as tyH
@@ -181,7 +181,7 @@ module _ {M : Type 1} (𝓤 : URA M) (H : Heap 𝓤) (A : Atoms 𝓤) (W : Given
         (λ within. skips ! $ exec ! C Λ (places (code.function .locals) (l₀ ∷ l₁ ∷ l₂ ∷ l₃ ∷ l₄ ∷ l₅ ∷ l₆ ∷ l₇ ∷ l₈ ∷ l₉ ∷ l₁₀ ∷ l₁₁ ∷ l₁₂ ∷ l₁₃ ∷ l₁₄ ∷ l₁₅ ∷ l₁₆ ∷ l₁₇ ∷ l₁₈ ∷ l₁₉ ∷ []) 𝓤 H) rest (atRet (places (code.function .locals) (l₀ ∷ l₁ ∷ l₂ ∷ l₃ ∷ l₄ ∷ l₅ ∷ l₆ ∷ l₇ ∷ l₈ ∷ l₉ ∷ l₁₀ ∷ l₁₁ ∷ l₁₂ ∷ l₁₃ ∷ l₁₄ ∷ l₁₅ ∷ l₁₆ ∷ l₁₇ ∷ l₁₈ ∷ l₁₉ ∷ []) 𝓤 H) Post) $
         assigns ! (bin ! (load ! (from ! (stop !)) (look ! 24 refl)) (lit ! tt) (record { fits = fits-at w (length ys) (nleb→lt (length ys) w within) gn })) (from ! (stop !)) (init ! 14 refl (tt, record { fits = fits-at w (length ys) (nleb→lt (length ys) w within) gn })) $ assigns ! (bin ! (load ! (from ! (fld ! refl (stop !))) (look-in ! 36 (sub ! 0 refl (whole !)))) (load ! (from ! (stop !)) (look ! 14 refl)) tt) (from ! (stop !)) (init ! 12 refl (tt, tt)) $ rewrite ! 12 (λ (p : ℕ). ‵ (fat fullShare tyPtr l₁₃ 0 (vptr b p))) (sym (place-is 60 o w)) refl $
         -- the borrow of the table is opened, and record w is taken out of the row
-        move ! (41 ∷ []) $ fsplit ! $ fsplit ! $ drop ! $ fsplit ! $ move ! (43 ∷ []) $ split ! $ move ! (2 ∷ 3 ∷ 0 ∷ []) $ opens-slice ! tt rowW ys b o $ elem-out ! rowW (Is rowW) (shows 𝓤 H A rowW) (LL.vals tyW.the-type lawW.the-laws) (LL.tells tyW.the-type lawW.the-laws) fullShare ys w idle b o (nleb→lt (length ys) w within) (λ g.
+        move ! (41 ∷ []) $ fsplit ! $ fsplit ! $ drop ! $ fsplit ! $ move ! (43 ∷ []) $ split ! $ move ! (2 ∷ 3 ∷ 0 ∷ []) $ opens-slice ! tt rowW ys b o $ takes-record ! ys w b o (nleb→lt (length ys) w within) (λ g.
         assigns ! (of-opd ! (load ! (from ! (hop ! (look ! 20 refl) (stop !))) (look-raw ! 0 refl))) (from ! (stop !)) (init ! 18 refl (typedW 𝓤 H A W elem g)) $ assigns ! (addr ! (from ! (fld ! refl (hop ! (look-in ! 38 (sub ! 0 refl (whole !))) (stop !))))) (from ! (stop !)) (init ! 16 refl (tt, tt)) $ assigns ! (agg ! (and-then ! (load ! (from ! (stop !)) (look ! 16 refl)) (and-then ! (load ! (from ! (fld ! refl (stop !))) (look-in ! 38 (sub ! 1 refl (whole !)))) (no-more !)))) (from ! (stop !)) (init ! 14 refl (tt, (tt, (record { fits = g₁ .0 }, tt)))) $ assigns ! (addr ! (from ! (fld ! refl (hop ! (look-in ! 36 (sub ! 0 refl (whole !))) (stop !))))) (from ! (stop !)) (init ! 12 refl (tt, tt)) $ assigns ! (agg ! (and-then ! (load ! (from ! (stop !)) (look ! 12 refl)) (and-then ! (load ! (from ! (fld ! refl (stop !))) (look-in ! 36 (sub ! 1 refl (whole !)))) (no-more !)))) (from ! (stop !)) (init ! 10 refl (tt, (tt, (record { fits = g₂ .0 }, tt)))) $
         -- `step_one` is called with the record: the lent tables of words go to it at their own lifetimes
         move ! (7 ∷ []) $ fsplit ! $ drop ! $ fsplit ! $ drop ! $ move ! (7 ∷ 0 ∷ []) $ use2 W (raw (One 𝓤 H A mem run .pre to-one)) (goes g) $
