@@ -1,0 +1,211 @@
+-- The places before a search: a bucket's dummy comes before all its keys, a parent's before its child's, and bucket 0 is always set.
+-- Assumes nothing.
+use mathlib.Core.Path.{_≡_, refl, sym, ap, _∙_}
+use mathlib.Core.Logic.{_≢_, _⊎_, inl, inr, ⊎-elim}
+use mathlib.Core.Bool.{Bool, true, false, true≢false, _&&_}
+use mathlib.Core.List.{List, List·Memᴰ as In}
+use Prim.Native.Nat.{ℕ, zero, suc, _+_, _*_, _/_, _%_, _^_, _≤_, _<_}
+use native.Mathlib.Omega.{arith}
+use native.Mathlib.Decide.{ℕ-discrete}
+use native.Mathlib.Nat.{mod-lt}
+use lib.Dec.{eqb, ltb}
+use borrow.Author.Tests.{eqb-true, eqb-false, ne-eqb, le-ltb}
+use Rattle.choice.specs.Choice.{pick}
+use Rattle.choice.proofs.Cases.{by-bool, by-eq}
+use Rattle.split.specs.Split.{regular, dummy, parentOf, nextDown, onPath}
+use Rattle.split.proofs.Laws.{dummy-first, parent-le, parent-first, on-path-self, on-path-up, on-path-le, next-down-parent}
+use Rattle.words.specs.Words.{STANDING, SPLIT-KEY, TAKEN, put, bucket, store}
+use Rattle.scans.specs.Scans.{lowest}
+use Rattle.scans.proofs.Laws.{lowest-free}
+use Rattle.names.specs.Names.{TB, B2, B4, F1, B8, KEY, DUMMY, INSERT, FIND}
+use Rattle.names.specs.declared.Answer.{Answer}
+use Rattle.names.specs.declared.Answer.the-variants.{Yes, No, NoDummy}
+use Rattle.header.specs.declared.Header.{Header}
+use Rattle.header.specs.Header.{dummiesOf, nodesOf}
+use Rattle.record.specs.declared.Worker.{Worker}
+use Rattle.record.specs.Fields.{to, withErrand, withWanted, withMaking, withStart, withDummy}
+use Rattle.record.specs.Worker.{heldKey, heldDummy}
+use Rattle.moves.specs.declared.Effect.the-variants.{Nothing, Take, Store}
+use Rattle.moves.specs.declared.Move.{Move}
+use Rattle.moves.specs.declared.Move.the-variants.{Damaged, Going, Ended}
+use Rattle.moves.specs.Moves.{tb, b2, b4, b8, sz}
+use Rattle.story.specs.Run.{key, link, standing, nothing}
+use Rattle.story.proofs.Chain.{some-on}
+use Rattle.story.proofs.Facts as F
+use Rattle.story.proofs.Facts.{Glob, Start, Root, Way, Sane, forKey, forDummy}
+use Rattle.story.proofs.Stable as st
+use Rattle.story.proofs.Core.{Pasts, Core}
+use Rattle.story.proofs.Effects.{same}
+use Rattle.story.proofs.Acts.{take-dummy, take-later, take-same, take-key-is}
+use Rattle.story.proofs.Ends.{stored}
+use Rattle.story.proofs.Steps.{took, ticked, Ctx, me, core, Told, Good, Stands, looks, over, past, upon, seen}
+
+module _ {h : Header} {ws : List Worker} {Ps Qs : Pasts} {w : ℕ} {c m bs : List ℕ} (z : Ctx h ws Ps Qs w c m bs) where
+  abbrev x : Worker
+  x = me z
+
+  abbrev N : ℕ
+  N = nodesOf h
+
+  abbrev D : ℕ
+  D = dummiesOf h
+
+  g₀ : Glob D N c m
+  g₀ = z .inv .glob
+
+  abbrev G : Move → Type 0
+  G = Good z false
+
+  word-small : (b : ℕ) → b < h .m → b < 2147483648
+  word-small b l = omega (arith, z .inv .limits .buckets .1)
+
+  -- SZ: the size is a power of two, so the key's bucket comes before the key
+  pub sz-good : Stands z F.sz → F.At h w c m (Ps w) F.sz x → G (sz (seen h x 0 0))
+  unfolding sz
+  sz-good s b = looks z false F.sz s (s .dum) F.tb (to TB (withWanted (x .key % h .size) x)) refl
+      (s .sane .0, s .sane .1, s .sane .2, s .sane .3, fits, s .sane .5, s .sane .6, s .sane .7, s .sane .8, s .sane .9, s .sane .10, s .sane .11)
+      (sym (s .hand)) refl refl refl (b, below) refl
+    where
+      fits : x .key % h .size < h .m
+      fits = omega (arith, mod-lt (x .key) {m = h .size} (omega (arith, z .inv .size .0)), z .inv .size .1)
+
+      below : dummy (x .key % h .size) < regular (x .key)
+      below = rw (z .inv .size .2 .2) (dummy-first (z .inv .size .2 .0) (x .key) (omega (arith, s .sane .3)))
+
+  -- a bucket word is 0 or its dummy
+  in-range : (b : ℕ) → b < h .m → Dec (bucket bs b ≡ 0) → ltb N (bucket bs b) ≡ false
+  in-range b l (yes e) = rw e (le-ltb N 0 (omega arith))
+  in-range b l (no ne) = le-ltb N (bucket bs b) (g₀ .fits (bucket bs b) (z .inv .root b l ne .on))
+
+  not-first : (b : ℕ) → bucket bs b ≡ 0 → b ≢ 0
+  not-first b e q = z .inv .root₀ (rw q at e)
+
+  -- TB
+  pub tb-good : Stands z F.tb → F.At h w c m (Ps w) F.tb x → G (tb (seen h x (bucket bs (x .wanted)) 0))
+  unfolding tb pick
+  tb-good s b = past G _ _ (in-range (x .wanted) (s .sane .4) (ℕ-discrete (bucket bs (x .wanted)) 0))
+      (by-eq G (bucket bs (x .wanted)) 0
+      (λ e. looks z false F.tb s (s .dum) F.b2 (to B2 (withMaking (x .wanted) x)) refl
+      (s .sane .0, s .sane .1, s .sane .2, s .sane .3, s .sane .4, s .sane .4, s .sane .6, s .sane .7, s .sane .8, s .sane .9, s .sane .10, s .sane .11)
+      (sym (s .hand)) refl refl refl (b .0, record { below = b .1; some = not-first (x .wanted) e; path = on-path-self (x .wanted) }) refl)
+      (λ ne. let o = z .inv .root (x .wanted) (s .sane .4) ne in
+      looks z false F.tb s (s .dum) F.f1 (to F1 (withStart (bucket bs (x .wanted)) (withErrand KEY x))) refl
+      (s .sane .0, s .sane .1, omega arith, s .sane .3, s .sane .4, s .sane .5, g₀ .fits (bucket bs (x .wanted)) (o .on), s .sane .7, s .sane .8, s .sane .9, s .sane .10, s .sane .11)
+      (sym (s .hand)) refl refl refl (forKey refl (b .0), record { on = o .on; sort = o .sort; low = rw (o .has) (b .1) }) refl))
+
+  -- B2
+  pub b2-good : Stands z F.b2 → F.At h w c m (Ps w) F.b2 x → G (b2 (seen h x (bucket bs (parentOf (x .making))) 0))
+  unfolding b2
+  b2-good s b = past G _ _ (in-range up fits (ℕ-discrete (bucket bs up) 0))
+      (by-eq G (bucket bs up) 0
+      (λ e. looks z false F.b2 s (s .dum) F.b2 (withMaking up x) (s .place)
+      (s .sane .0, s .sane .1, s .sane .2, s .sane .3, s .sane .4, fits, s .sane .6, s .sane .7, s .sane .8, s .sane .9, s .sane .10, s .sane .11)
+      (sym (s .hand)) refl refl refl (b .0, record { below = b .1 .below; some = not-first up e; path = on-path-up (x .wanted) (x .making) (b .1 .path) }) refl)
+      (λ ne. let o = z .inv .root up fits ne in
+      looks z false F.b2 s (s .dum) F.b4 (to B4 (withStart (bucket bs up) x)) refl
+      (s .sane .0, s .sane .1, s .sane .2, s .sane .3, s .sane .4, s .sane .5, g₀ .fits (bucket bs up) (o .on), s .sane .7, s .sane .8, s .sane .9, s .sane .10, s .sane .11)
+      (sym (s .hand)) refl refl refl (b .0, b .1, record { on = o .on; sort = o .sort; low = rw (o .has) first }) refl))
+    where
+      up : ℕ
+      up = parentOf (x .making)
+
+      fits : up < h .m
+      fits = omega (arith, parent-le (x .making), s .sane .5)
+
+      first : dummy up < dummy (x .making)
+      first = parent-first (x .making) (omega (arith, b .1 .some)) (omega (arith, word-small (x .making) (s .sane .5)))
+
+  -- B4: the dummy node that is free is taken
+  pub b4-good : Stands z F.b4 → F.At h w c m (Ps w) F.b4 x → G (b4 (seen h x (lowest m 1 D) 0))
+  unfolding b4 pick
+  b4-good s b = by-eq G n 0
+      (λ _. by-bool G (eqb (x .kind) INSERT && eqb (x .held) 0)
+      (λ t. absurd (b .0 (eqb-true (x .kind) INSERT (and-left (eqb (x .kind) INSERT) (eqb (x .held) 0) t)) (eqb-true (x .held) 0 (and-right (eqb (x .kind) INSERT) (eqb (x .held) 0) t))))
+      (λ _. over z false NoDummy c m (core z) (λ j. record { still = λ r. r; already = λ r. r }) (record {
+        yes = λ a k. let f : _≡_ {A = ℕ} 0 1 = cc in absurd (omega arith);
+        no-there = λ a k. let f : _≡_ {A = ℕ} 0 1 = cc in absurd (omega arith);
+        no-absent = λ a k. let f : _≡_ {A = ℕ} 0 1 = cc in absurd (omega arith);
+        done = λ a k. let f : _≡_ {A = ℕ} 0 1 = cc in absurd (omega arith);
+        undone = λ a. refl;
+      })))
+      takes
+    where
+      n : ℕ
+      n = lowest m 1 D
+
+      and-left : (p q : Bool) → p && q ≡ true → p ≡ true
+      and-left true q e = refl
+      and-left false q e = e
+
+      and-right : (p q : Bool) → p && q ≡ true → q ≡ true
+      and-right true q e = e
+      and-right false q e = absurd (true≢false (sym e))
+
+      takes : n ≢ 0 → G (Going (to F1 (withErrand DUMMY (withDummy n x))) (Take n (dummy (x .making))))
+      takes ne = record {
+        chain = c;
+        next = record {
+          k = heldKey x;
+          d = n;
+          rest = take-dummy (core z) n (dummy (x .making)) (f .2) (f .0) fits (s .dum) (f .1);
+          spot = F.f1;
+          place = refl;
+          sane = (s .sane .0, s .sane .1, omega arith, s .sane .3, s .sane .4, s .sane .5, s .sane .6, s .sane .7, s .sane .8, s .sane .9, s .sane .10, fits);
+          key-same = sym (s .hand);
+          dum-same = refl;
+          key-has = λ y. later .has D N (heldKey x) y (core z .key-held y) ∙ s .key-has y;
+          dum-has = λ y. take-key-is (core z) n (dummy (x .making)) (f .2) (f .0) fits;
+          at = (forDummy refl (b .0) (b .1) ne, st.start later (b .2));
+        };
+        change = take-same (core z) n (dummy (x .making)) (f .2) (f .0) fits;
+        kind = refl;
+        same-key = refl;
+        turned = refl;
+      }
+        where
+          f : (1 ≤ n) × (n ≤ D) × (standing m n ≡ 0)
+          f = lowest-free m 1 D n refl ne
+
+          fits : n ≤ N
+          fits = omega (arith, f .1)
+
+          later : F.Later D N w 0 c m c (put (put m n SPLIT-KEY (dummy (x .making))) n STANDING TAKEN)
+          later = take-later (core z) n (dummy (x .making)) (f .2) (f .0) fits w
+
+  -- B8: the bucket is set, and the next one down the path follows
+  pub b8-good : Stands z F.b8 → F.At h w c m (Ps w) F.b8 x → G (b8 (seen h x 0 0))
+  unfolding b8
+  b8-good s b = past G _ _ (ne-eqb (x .dummy) 0 some)
+      (by-eq G (x .making) (x .wanted) (λ e. stores F.tb TB (x .making) (s .sane .5) refl (sym (s .hand)) refl (b .0, b .1 .below) refl)
+      (λ ne. let d = next-down-parent (x .wanted) (x .making) (b .1 .path) ne in
+      stores F.b2 B2 (nextDown (x .wanted) (x .making)) (omega (arith, on-path-le (x .wanted) (nextDown (x .wanted) (x .making)) (d .1), s .sane .4)) refl (sym (s .hand)) refl
+      (b .0, record { below = b .1 .below; some = omega (arith, d .2); path = d .1 }) refl))
+    where
+      some : x .dummy ≢ 0
+      some e = omega (arith, some-on m 0 1 (b .2 .on) (g₀ .walk))
+
+      y : ℕ → ℕ → Worker
+      y p a = to p (withMaking a (withDummy 0 x))
+
+      stores : (q : F.Spot) (p a : ℕ) → a < h .m → p ≡ F.number q → F.keyOf q (ticked (to p (withMaking a (withDummy 0 x)))) ≡ heldKey x → F.dumOf q (ticked (to p (withMaking a (withDummy 0 x)))) ≡ 0
+          → F.At h w c m (Qs w) q (ticked (to p (withMaking a (withDummy 0 x)))) → took q (x .errand) ≡ false → G (Going (to p (withMaking a (withDummy 0 x))) (Store (x .making) (x .dummy)))
+      stores q p a l pl ek ed at t = record {
+        chain = c;
+        next = record {
+          k = heldKey x;
+          d = heldDummy x;
+          rest = stored (core z) (x .making) (x .dummy) (s .sane .5) some (b .2);
+          spot = q;
+          place = pl;
+          sane = (s .sane .0, s .sane .1, s .sane .2, s .sane .3, s .sane .4, l, s .sane .6, s .sane .7, s .sane .8, s .sane .9, s .sane .10, omega arith);
+          key-same = ek;
+          dum-same = ed ∙ sym (s .dum);
+          key-has = s .key-has;
+          dum-has = λ n. absurd (n (s .dum));
+          at = at;
+        };
+        change = λ j. record { still = λ r. r; already = λ r. r };
+        kind = refl;
+        same-key = refl;
+        turned = t;
+      }

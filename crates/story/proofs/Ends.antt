@@ -1,0 +1,260 @@
+-- A header's words, a bucket, the sweep, the end of an operation and its start: each leaves the chain as it is.
+-- Assumes nothing.
+use mathlib.Core.Path.{_≡_, refl, sym, ap, _∙_}
+use mathlib.Core.Logic.{_≢_, _⊎_, inl, inr, ⊎-elim}
+use mathlib.Core.List.{List, List·Memᴰ as In}
+use Prim.Native.Nat.{ℕ, zero, suc, _+_, _*_, _/_, _%_, _^_, _≤_, _<_}
+use native.Mathlib.Omega.{arith}
+use native.Mathlib.Decide.{ℕ-discrete}
+use lib.Dec.{eqb}
+use lib.ListN.{length, set}
+use Rattle.choice.specs.Choice.{pick}
+use Rattle.choice.proofs.Cases.{by-eq, both}
+use Rattle.split.specs.Split.{regular, dummy}
+use Rattle.words.specs.Words.{SPLIT-KEY, LINK, STANDING, TAKEN, put, bucket, store}
+use Rattle.words.proofs.Laws.{nothing, put-length, store-length, store-same, store-other}
+use Rattle.sets.specs.Sets.{bit, dropped, raised}
+use Rattle.sets.proofs.Laws.{bit-some, dropped-same, dropped-other, dropped-lt, raised-same, raised-other, raised-lt}
+use Rattle.scans.specs.Scans.{leave, sweep}
+use Rattle.scans.proofs.Laws.{leave-set, leave-taken, leave-le, sweep-length, sweep-word, sweep-standing}
+use Rattle.names.specs.Names.{IDLE, I1, SZ, KEY, INSERT, DELETE, KEY-LIMIT}
+use Rattle.header.specs.declared.Header.{Header}
+use Rattle.header.specs.Header.{dummiesOf, nodesOf, busied}
+use Rattle.header.specs.Rows.{PowerFromTo}
+use Rattle.record.specs.declared.Worker.{Worker}
+use Rattle.record.specs.Worker.{fresh, idle, begun, heldKey, heldDummy}
+use Rattle.story.specs.Run.{key, link, standing, after, mark}
+use Rattle.story.specs.Story.{Same}
+use Rattle.story.proofs.Memory
+use Rattle.story.proofs.Facts.{Glob, Root, Spot, i1, sz, tb, b2, b4, f1, f2, f3, f4, l2, b8, i8, i9, i10, d4a, d4b, d6, At, Sane, Busy, Fact, Later}
+use Rattle.story.proofs.Stable.{Grows}
+use Rattle.story.proofs.Hands.{idle-key, idle-dummy}
+use Rattle.story.proofs.Core.{Pasts, recordOf, Agrees, Core, Inv, Shift, shift, aside, whose, back, not-idle}
+use Rattle.story.proofs.Effects.{swept, swept-later}
+use Rattle.story.proofs.Registers.{unchanged}
+use Rattle.story.proofs.Acts.{free-key, free-dummy}
+
+-- ---- the header's words that calls change
+abbrev pub headed : ℕ → ℕ → ℕ → Header → Header
+headed z n b h = record { m = h .m; k = h .k; w = h .w; l = h .l; size = z; count = n; busy = b }
+
+-- no fact is about them
+module _ (h : Header) (z n b v : ℕ) (c m : List ℕ) (P : ℕ → ℕ → ℕ → Type 0) where
+  at-headed : (p : Spot) (x : Worker) → At h v c m P p x → At (headed z n b h) v c m P p x
+  at-headed i1 x a = a
+  at-headed sz x a = a
+  at-headed tb x a = a
+  at-headed b2 x a = a
+  at-headed b4 x a = a
+  at-headed f1 x a = a
+  at-headed f2 x a = a
+  at-headed f3 x a = a
+  at-headed f4 x a = a
+  at-headed l2 x a = a
+  at-headed b8 x a = a
+  at-headed i8 x a = a
+  at-headed i9 x a = a
+  at-headed i10 x a = a
+  at-headed d4a x a = a
+  at-headed d4b x a = a
+  at-headed d6 x a = a
+
+  pub fact-headed : (x : Worker) → Fact h v c m P x → Fact (headed z n b h) v c m P x
+  fact-headed x (inl e) = inl e
+  fact-headed x (inr f) = inr (record { spot = f .spot; place = f .place; sane = f .sane; held = f .held; dum = f .dum; at = at-headed (f .spot) x (f .at) })
+
+module _ {h : Header} {ws : List Worker} {Ps : Pasts} {w k d : ℕ} {c m bs : List ℕ} (core : Core h ws Ps w k d c m bs) where
+  pub reheaded : (z n b : ℕ) → PowerFromTo 2 (h .m) z → b < 2 ^ h .w → ((v : ℕ) → v < h .w → v ≢ w → bit v b ≡ bit v (h .busy))
+      → ((i v : ℕ) → i ≤ nodesOf h → standing m i < 65536 → bit v (standing m i) ≡ 1 → bit v b ≡ 1) → Core (headed z n b h) ws Ps w k d c m bs
+  reheaded z n b size few bits waits = record {
+    limits = record { buckets = core .limits .buckets; keys = core .limits .keys; workers = core .limits .workers; load = core .limits .load };
+    size = size;
+    few = few;
+    long = core .long;
+    glob = core .glob;
+    key-held = core .key-held;
+    dum-held = core .dum-held;
+    fact = λ v l ne. fact-headed h z n b v c m (Ps v) (recordOf ws v) (core .fact v l ne);
+    bits = λ v l ne. rw (bits v l ne) (core .bits v l ne);
+    apart = core .apart;
+    key-mine = core .key-mine;
+    dum-mine = core .dum-mine;
+    whole = core .whole;
+    waits = waits;
+    room = core .room;
+    root₀ = core .root₀;
+    root = core .root;
+  }
+
+  -- I9, D6: the count; I10: the size
+  pub recounted : (n : ℕ) → Core (headed (h .size) n (h .busy) h) ws Ps w k d c m bs
+  recounted n = reheaded (h .size) n (h .busy) (core .size) (core .few) (λ v l ne. refl) (core .waits)
+
+  pub resized : (z : ℕ) → PowerFromTo 2 (h .m) z → Core (headed z (h .count) (h .busy) h) ws Ps w k d c m bs
+  resized z p = reheaded z (h .count) (h .busy) p (core .few) (λ v l ne. refl) (core .waits)
+
+  -- B8: a bucket is set to its dummy
+  pub stored : (b n : ℕ) → b < h .m → n ≢ 0 → Root (dummiesOf h) c m b n → Core h ws Ps w k d c m (store bs b n)
+  stored b n lt ne o = record {
+    limits = core .limits;
+    size = core .size;
+    few = core .few;
+    long = core .long;
+    glob = core .glob;
+    key-held = core .key-held;
+    dum-held = core .dum-held;
+    fact = core .fact;
+    bits = core .bits;
+    apart = core .apart;
+    key-mine = core .key-mine;
+    dum-mine = core .dum-mine;
+    whole = core .whole;
+    waits = core .waits;
+    room = rw (store-length bs b n) (core .room);
+    root₀ = first (ℕ-discrete 0 b);
+    root = λ i l. root i l (ℕ-discrete i b);
+  }
+    where
+      here : bucket (store bs b n) b ≡ n
+      here = store-same bs b n (omega (arith, core .room))
+
+      first : Dec (0 ≡ b) → bucket (store bs b n) 0 ≢ 0
+      first (yes e) z = ne (sym here ∙ ap (bucket (store bs b n)) (sym e) ∙ z)
+      first (no q) z = core .root₀ (sym (store-other bs b n 0 q) ∙ z)
+
+      root : (i : ℕ) → i < h .m → Dec (i ≡ b) → bucket (store bs b n) i ≢ 0 → Root (dummiesOf h) c m i (bucket (store bs b n) i)
+      root i l (yes e) z = rw (e, here) o
+      root i l (no q) z = rw (store-other bs b n i q) (core .root i l (rw (store-other bs b n i q) at z))
+
+-- ---- the sweep
+module _ {h : Header} {ws : List Worker} {Ps : Pasts} {w : ℕ} {c m bs : List ℕ} (core : Core h ws Ps w 0 0 c m bs) where
+  abbrev m′ : List ℕ
+  m′ = sweep w (nodesOf h) m
+
+  sk : (n : ℕ) → key m′ n ≡ key m n
+  sk n = sweep-word w (nodesOf h) m n SPLIT-KEY (omega arith) (omega arith)
+
+  sl : (n : ℕ) → link m′ n ≡ link m n
+  sl n = sweep-word w (nodesOf h) m n LINK (omega arith) (omega arith)
+
+  ss : (n : ℕ) → 1 ≤ n → n ≤ nodesOf h → standing m′ n ≡ leave w (standing m n)
+  ss n a b = sweep-standing w (nodesOf h) m n a b (omega (arith, core .glob .size))
+
+  was-taken : (n : ℕ) → n ≤ nodesOf h → standing m′ n ≡ TAKEN → standing m n ≡ TAKEN
+  was-taken zero b t = let z : standing m′ 0 ≡ 0 = nothing m′ 2 in absurd (omega arith)
+  was-taken (suc n) b t = ⊎-elim (λ a. absurd (omega (arith, leave-le w (standing m (suc n)), ss (suc n) (omega arith) b))) (λ e. e) (core .glob .kinds (suc n) b)
+
+  -- who is waited for afterwards was before, and is not w
+  still : (n v : ℕ) → n ≤ nodesOf h → standing m′ n < 65536 → bit v (standing m′ n) ≡ 1 → (bit v (h .busy) ≡ 1) × (v ≢ w)
+  still zero v b a e = let z : standing m′ 0 ≡ 0 = nothing m′ 2 in absurd (omega (arith, bit-some v (standing m′ 0) e))
+  still (suc n) v b a e = ⊎-elim set taken (core .glob .kinds (suc n) b)
+    where
+      is : standing m′ (suc n) ≡ leave w (standing m (suc n))
+      is = ss (suc n) (omega arith) b
+
+      taken : standing m (suc n) ≡ TAKEN → (bit v (h .busy) ≡ 1) × (v ≢ w)
+      taken q = absurd (omega (arith, is, leave-taken w (standing m (suc n)) (omega arith)))
+
+      set : standing m (suc n) < 65536 → (bit v (h .busy) ≡ 1) × (v ≢ w)
+      set q = by (ℕ-discrete v w)
+        where
+          drop : standing m′ (suc n) ≡ dropped w (standing m (suc n))
+          drop = is ∙ leave-set w (standing m (suc n)) (omega arith)
+
+          by : Dec (v ≡ w) → (bit v (h .busy) ≡ 1) × (v ≢ w)
+          by (yes y) = absurd (omega (arith, dropped-same w (standing m (suc n)), rw (drop, y) at e))
+          by (no y) = (core .waits (suc n) v b q (sym (dropped-other v w (standing m (suc n)) y) ∙ (rw drop at e)), y)
+
+  pub sweeps : Core h ws Ps w 0 0 c m′ bs
+  sweeps = shift core {g = 0} (record {
+    glob = swept (dummiesOf h) (nodesOf h) w c m m′ (core .glob) (sweep-length w (nodesOf h) m) sk sl ss;
+    later = λ v ne t. swept-later (dummiesOf h) (nodesOf h) w c m m′ (core .glob) (sweep-length w (nodesOf h) m) sk sl ss v 0 ne;
+    touch = inl refl;
+    key-held = λ y. absurd (y refl);
+    dum-held = λ y. absurd (y refl);
+    key-from = inl refl;
+    dum-from = inl refl;
+    was = λ n b t. inl (was-taken n b t);
+    stays = λ n t i. i;
+    own = λ n t o. inr o;
+    waits = λ n v b a e. still n v b a e .0;
+    roots = λ n i b. (i, sk n);
+  })
+
+  pub leaves : Core (headed (h .size) (h .count) (dropped w (h .busy)) h) ws Ps w 0 0 c m′ bs
+  leaves = reheaded sweeps (h .size) (h .count) (dropped w (h .busy)) (core .size) (dropped-lt w (h .w) (h .busy) (core .few))
+      (λ v l ne. dropped-other v w (h .busy) ne)
+      (λ n v b a e. let q = still n v b a e in dropped-other v w (h .busy) (q .1) ∙ q .0)
+
+-- ---- the end of an operation
+module _ {h : Header} {ws : List Worker} {Ps : Pasts} {w k d : ℕ} {c m bs : List ℕ} (core : Core h ws Ps w k d c m bs) where
+  abbrev pub freedBoth : List ℕ
+  freedBoth = put (put m k STANDING 0) d STANDING 0
+
+  quiet : Core (headed (h .size) (h .count) (dropped w (h .busy)) h) ws Ps w 0 0 c (sweep w (nodesOf h) freedBoth) bs
+  quiet = leaves (free-dummy (free-key core))
+
+  pub ends : w < h .w → (Qs : Pasts) → ((v : ℕ) → v ≢ w → Grows (Ps v) (Qs v))
+      → Inv (busied (dropped w (h .busy)) h) (set ws w idle) Qs c (sweep w (nodesOf h) freedBoth) bs
+  ends lt Qs up = back quiet lt idle Qs up (inl refl) (inl (refl, dropped-same w (h .busy))) idle-key idle-dummy
+
+  pub ends-same : (j : ℕ) → Same m (sweep w (nodesOf h) freedBoth) j
+  ends-same = unchanged (dummiesOf h) (nodesOf h) c m c (sweep w (nodesOf h) freedBoth) (core .glob) (quiet .glob)
+      (λ n i. ek n) (λ n i l. (i, rw (el n) l)) (λ n i l. (i, rw (el n) at l))
+    where
+      ek : (n : ℕ) → key (sweep w (nodesOf h) freedBoth) n ≡ key m n
+      ek n = sweep-word w (nodesOf h) freedBoth n SPLIT-KEY (omega arith) (omega arith) ∙ Memory.key-of-standing (put m k STANDING 0) d 0 n ∙ Memory.key-of-standing m k 0 n
+
+      el : (n : ℕ) → link (sweep w (nodesOf h) freedBoth) n ≡ link m n
+      el n = sweep-word w (nodesOf h) freedBoth n LINK (omega arith) (omega arith) ∙ Memory.link-of-standing (put m k STANDING 0) d 0 n ∙ Memory.link-of-standing m k 0 n
+
+-- ---- the start of an operation
+begun-key : (kind k : ℕ) → heldKey (begun kind k) ≡ 0
+unfolding heldKey begun
+begun-key kind k = both (λ (y : ℕ). y ≡ 0) _ refl refl
+
+begun-dummy : (kind k : ℕ) → heldDummy (begun kind k) ≡ 0
+unfolding heldDummy begun
+begun-dummy kind k = both (λ (y : ℕ). y ≡ 0) _ refl refl
+
+module _ {h : Header} {ws : List Worker} {Ps : Pasts} {c m bs : List ℕ} (inv : Inv h ws Ps c m bs) (w kind k : ℕ) (lt : w < h .w) (rest : recordOf ws w ≡ idle)
+    (known : (INSERT ≤ kind) × (kind ≤ DELETE)) (low : k ≤ KEY-LIMIT) where
+  abbrev h′ : Header
+  h′ = busied (raised w (h .busy)) h
+
+  w32 : w < 32
+  w32 = omega (arith, inv .limits .workers .1)
+
+  ready : Core h ws Ps w 0 0 c m bs
+  ready = rw (rest, idle-key, idle-dummy) at (aside inv w lt)
+
+  opened : Core h′ ws Ps w 0 0 c m bs
+  opened = reheaded ready (h .size) (h .count) (raised w (h .busy)) (inv .size) (raised-lt w (h .w) (h .busy) lt (inv .few))
+      (λ v l ne. raised-other v w (h .busy) ne) (λ n v b a e. up v (ℕ-discrete v w) (inv .waits n v b a e))
+    where
+      up : (v : ℕ) → Dec (v ≡ w) → bit v (h .busy) ≡ 1 → bit v (raised w (h .busy)) ≡ 1
+      up v (yes e) b = rw e (raised-same w (h .busy) w32)
+      up v (no ne) b = raised-other v w (h .busy) ne ∙ b
+
+  module _ (Q : ℕ → ℕ → ℕ → Type 0) where
+    Fits : ℕ → Type 0
+    Fits p = Busy h′ w c m Q (fresh p kind k)
+
+    begins : Busy h′ w c m Q (begun kind k)
+    unfolding begun Fits
+    begins = by-eq (λ (p : ℕ). Fits p) kind INSERT
+        (λ e. record { spot = i1; place = refl; sane = sane I1; held = λ z. absurd (z refl); dum = λ z. absurd (z refl); at = e })
+        (λ ne. record { spot = sz; place = refl; sane = sane SZ; held = λ z. absurd (z (by-eq (λ (y : ℕ). y ≡ 0) kind INSERT (λ e. absurd (ne e)) (λ _. refl))); dum = λ z. absurd (z refl); at = λ e. absurd (ne e) })
+      where
+        some : 0 < h .m
+        some = omega (arith, inv .limits .buckets .0)
+
+        sane : (p : ℕ) → Sane h′ (fresh p kind k)
+        sane p = (omega arith, omega arith, omega arith, low, some, some, omega arith, omega arith, omega arith, omega arith, omega arith, omega arith)
+
+  pub starts : (Qs : Pasts) → ((v : ℕ) → v ≢ w → Grows (Ps v) (Qs v)) → Inv h′ (set ws w (begun kind k)) Qs c m bs
+  starts Qs up = back opened lt (begun kind k) Qs up (inr b) (inr (λ e. not-idle (b .spot) (sym (b .place) ∙ e), raised-same w (h .busy) w32))
+      (begun-key kind k) (begun-dummy kind k)
+    where
+      b : Busy h′ w c m (Qs w) (begun kind k)
+      b = begins (Qs w)

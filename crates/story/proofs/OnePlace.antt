@@ -1,0 +1,130 @@
+-- A node's standing says which of the four it is, and the chain and the hands of the workers share no node.
+-- Assumes nothing.
+use mathlib.Core.Path.{_≡_, refl, sym, ap, _∙_}
+use mathlib.Core.Logic.{_≢_, _⊎_, inl, inr, ⊎-elim}
+use mathlib.Core.List.{List, List·Memᴰ as In}
+use Prim.Native.Nat.{ℕ, zero, suc, _+_, _*_, _^_, _≤_, _<_}
+use native.Mathlib.Omega.{arith}
+use native.Mathlib.Decide.{ℕ-discrete}
+use borrow.Author.Tests.{le-leb}
+use lib.Dec.{ltb}
+use lib.ListN.{length, getD}
+use Rattle.choice.specs.Choice.{pick}
+use Rattle.choice.proofs.Cases.{by-bool}
+use Rattle.words.specs.Words.{TAKEN, LARGEST-SET}
+use Rattle.sets.specs.Sets.{bit}
+use Rattle.sets.proofs.Laws.{bit-some}
+use Rattle.header.specs.declared.Header.{Header}
+use Rattle.header.specs.Header.{nodesOf, dummiesOf, busyBeyond}
+use Rattle.header.proofs.Rows.{busy-beyond}
+use Rattle.record.specs.Worker.{heldKey, heldDummy}
+use Rattle.register.specs.declared.Limits.{Limits}
+use Rattle.register.specs.Calls.{Kept, freshHeader}
+use Rattle.promises.specs.Fresh as F
+use Rattle.crew.specs.Crew.{Left, turnAt, startAt, stepAt}
+use Rattle.promises.proofs.Fresh.{prepare-fresh}
+use Rattle.promises.proofs.WritesOnly.{beyond-kept}
+use Rattle.story.specs.Run.{State, workerOf, Call, start, step, left, Run, state, standing, On}
+use Rattle.story.specs.Story.{Free, Holds, HeldByOne, Waiting, OneOf, OnePlace, PastKept}
+use Rattle.story.proofs.Chain.{on-in, in-on}
+use Rattle.story.proofs.Facts.{Held}
+use Rattle.story.proofs.Core.{Pasts, fact-key, fact-dummy, Holder}
+use Rattle.story.proofs.Calls.{InvOf}
+use Rattle.story.proofs.Fresh.{ready, kept}
+use Rattle.story.proofs.Theorem.{Past, good, made-at}
+
+-- a set that is not empty has a worker
+some-bit : (s : ℕ) → 1 ≤ s → (v : ℕ) × (bit v s ≡ 1)
+unfolding busyBeyond
+some-bit s b =
+    let p = busy-beyond (record { m = 0; k = 0; w = 0; l = 0; size = 0; count = 0; busy = s }) .sound (le-leb 1 s b) in
+    (p .0, p .2)
+
+module _ (s : State) (Ps : Pasts) (c : List ℕ) (inv : InvOf s Ps c) (n : ℕ) (low : 1 ≤ n) (high : n ≤ nodesOf (s .header)) where
+  abbrev W : ℕ
+  W = s .header .w
+
+  abbrev m : List ℕ
+  m = s .nodes
+
+  -- a node in hand: of its sort, taken, off the chain
+  in-key : (w : ℕ) → w < W → heldKey (workerOf s w) ≡ n → Held (dummiesOf (s .header)) (nodesOf (s .header)) c m n
+  in-key w lt e = rw e at (fact-key (s .header) w c m (Ps w) (workerOf s w) (inv .fact w lt (omega arith)) (λ z. omega (arith, e)))
+
+  in-dummy : (w : ℕ) → w < W → heldDummy (workerOf s w) ≡ n → Held 0 (dummiesOf (s .header)) c m n
+  in-dummy w lt e = rw e at (fact-dummy (s .header) w c m (Ps w) (workerOf s w) (inv .fact w lt (omega arith)) (λ z. omega (arith, e)))
+
+  taken : {w : ℕ} → Holds s w n → (standing m n ≡ TAKEN) × (In n c → ⊥)
+  taken {w} h = ⊎-elim (λ e. let q = in-key w (h .0) e in (q .is, q .off)) (λ e. let q = in-dummy w (h .0) e in (q .is, q .off)) (h .1)
+
+  one-hand : (u v : ℕ) → Holds s u n → Holds s v n → Dec (u ≡ v) → u ≡ v
+  one-hand u v a b (yes e) = e
+  one-hand u v a b (no ne) = absurd (⊎-elim
+      (λ e. ⊎-elim (λ f. inv .apart u v (a .0) (b .0) (omega (arith, a .0)) (omega (arith, b .0)) ne .0 (λ z. omega (arith, e)) (e ∙ sym f))
+      (λ f. omega (arith, in-key u (a .0) e .low, in-dummy v (b .0) f .high)) (b .1))
+      (λ e. ⊎-elim (λ f. omega (arith, in-dummy u (a .0) e .high, in-key v (b .0) f .low))
+      (λ f. inv .apart u v (a .0) (b .0) (omega (arith, a .0)) (omega (arith, b .0)) ne .1 (λ z. omega (arith, e)) (e ∙ sym f)) (b .1)) (a .1))
+
+  on-taken : On m n → standing m n ≡ TAKEN
+  on-taken o = inv .glob .is n (on-in m c (inv .glob .walk) o)
+
+  pub exactly-one : OneOf (Free s n) (HeldByOne s n) (On m n) (Waiting s n)
+  exactly-one = record {
+    one = ⊎-elim (λ l. set l (ℕ-discrete (standing m n) 0)) whole (inv .glob .kinds n high);
+    ab = λ f h. omega (arith, f .is, taken (h .holds) .0);
+    ac = λ f o. omega (arith, f .is, on-taken o);
+    ad = λ f w. omega (arith, f .is, bit-some (w .some .0) (standing m n) (w .some .1));
+    bc = λ h o. taken (h .holds) .1 (on-in m c (inv .glob .walk) o);
+    bd = λ h w. omega (arith, taken (h .holds) .0, w .set);
+    cd = λ o w. omega (arith, on-taken o, w .set);
+  }
+    where
+      set : standing m n < 65536 → Dec (standing m n ≡ 0) → Free s n ⊎ HeldByOne s n ⊎ On m n ⊎ Waiting s n
+      set l (yes e) = inl (record { is = e })
+      set l (no ne) = inr (inr (inr (record { set = omega arith; some = some-bit (standing m n) (omega (arith, ne)); busy = λ v b. inv .waits n v high l b })))
+
+      held : Holder W (s .workers) W n → HeldByOne s n
+      held h = let o : Holds s (h .who) n = (h .real, h .has) in record { who = h .who; holds = o; only = λ v q. one-hand v (h .who) q o (ℕ-discrete v (h .who)) }
+
+      whole : standing m n ≡ TAKEN → Free s n ⊎ HeldByOne s n ⊎ On m n ⊎ Waiting s n
+      whole t = ⊎-elim (λ i. inr (inr (inl (in-on m c (inv .glob .walk) i))))
+          (⊎-elim (⊎-elim (λ e. absurd (omega arith)) (λ e. absurd (omega arith))) (λ h. inr (inl (held h)))) (inv .whole n high t)
+
+pub one-place : OnePlace
+one-place r i n low high = let g = good r i in exactly-one (state r i) (Past r i) (g .chain) (g .inv) n low high
+
+-- ---- words past the tables' own
+step-past : (s : State) (w n : ℕ)
+    → (nodesOf (s .header) * 3 ≤ n → getD (left s (step w) .nodes) n 0 ≡ getD (s .nodes) n 0) × (s .header .m ≤ n → getD (left s (step w) .buckets) n 0 ≡ getD (s .buckets) n 0)
+unfolding stepAt
+step-past s w n =
+    by-bool (λ (l : Left). (nodesOf (s .header) * 3 ≤ n → getD (l .nodes) n 0 ≡ getD (s .nodes) n 0) × (s .header .m ≤ n → getD (l .buckets) n 0 ≡ getD (s .buckets) n 0))
+    (ltb (length (s .workers)) (s .header .w)) (λ _. (λ _. refl, λ _. refl))
+    (λ _. let k = beyond-kept (turnAt (s .header) (s .workers) w) (s .nodes) (s .buckets) in (k .nodes n, k .buckets n))
+
+start-past : (s : State) (w kind key : ℕ) → (left s (start w kind key) .nodes ≡ s .nodes) × (left s (start w kind key) .buckets ≡ s .buckets)
+unfolding startAt
+start-past s w kind key =
+    by-bool (λ (l : Left). (l .nodes ≡ s .nodes) × (l .buckets ≡ s .buckets)) (ltb (length (s .workers)) (s .header .w)) (λ _. (refl, refl)) (λ _. (refl, refl))
+
+call-past : (s : State) (c : Call) (n : ℕ)
+    → (nodesOf (s .header) * 3 ≤ n → getD (left s c .nodes) n 0 ≡ getD (s .nodes) n 0) × (s .header .m ≤ n → getD (left s c .buckets) n 0 ≡ getD (s .buckets) n 0)
+call-past s (step w) n = step-past s w n
+call-past s (start w kind key) n = let p = start-past s w kind key in (λ _. rw (p .0), λ _. rw (p .1))
+
+-- preparing touches none of them
+fresh-past : (l : Limits) (ns bs : List ℕ) (k : Kept) → F.Fresh l ns bs k → (h : Header) (ms cs : List ℕ) → h ≡ freshHeader l → ms ≡ k .nodes → cs ≡ k .buckets → (n : ℕ)
+    → (nodesOf h * 3 ≤ n → getD ms n 0 ≡ getD ns n 0) × (h .m ≤ n → getD cs n 0 ≡ getD bs n 0)
+fresh-past l ns bs k f h ms cs eh em ec n = rw (eh, em, ec) (f .past-nodes n, f .past-buckets n)
+
+pub past-kept : PastKept
+past-kept r zero n =
+    let p = ready (r .first) (r .fresh) in
+    let f = r .fresh in
+    fresh-past (f .limits) (f .nodes) (f .buckets) (kept (r .first) f) (prepare-fresh (f .limits) (f .header) (f .nodes) (f .buckets) (p .going))
+    (r .first .header) (r .first .nodes) (r .first .buckets) (p .header) (p .nodes) (p .buckets) n
+past-kept r (suc i) n =
+    let s = made-at r i (good r i) .sizes in
+    let c = call-past (state r i) (r .call i) n in
+    let p = past-kept r i n in
+    (λ b. let b′ : nodesOf (state r i .header) * 3 ≤ n = omega arith in c .0 b′ ∙ p .0 b′, λ b. let b′ : state r i .header .m ≤ n = omega arith in c .1 b′ ∙ p .1 b′)

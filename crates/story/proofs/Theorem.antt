@@ -1,0 +1,190 @@
+-- The invariant holds at every state of every run, by induction on the calls; what is said of a run is read off it.
+-- Assumes nothing.
+use mathlib.Core.Path.{_≡_, refl, sym, ap, _∙_}
+use mathlib.Core.Logic.{_≢_, _⊎_, inl, inr, ⊎-elim}
+use mathlib.Core.Bool.{Bool, true, false, _&&_}
+use mathlib.Core.List.{List, [], _∷_, List·Memᴰ as In, List·Memᴰ·head as here}
+use Prim.Native.Nat.{ℕ, zero, suc, _+_, _*_, _^_, _≤_, _<_}
+use native.Mathlib.Omega.{arith}
+use native.Mathlib.Decide.{ℕ-discrete}
+use lib.Dec.{eqb, ltb}
+use lib.ListN.{length, getD}
+use borrow.Author.Tests.{ne-eqb, eqb-true, le-leb}
+use Rattle.choice.specs.Choice.{pick}
+use Rattle.choice.proofs.Cases.{by-bool, by-eq, both}
+use Rattle.words.specs.Words.{TAKEN, LARGEST-SET}
+use Rattle.sets.specs.Sets.{bit}
+use Rattle.sets.proofs.Laws.{bit-some}
+use Rattle.names.specs.Names.{IDLE, KEY-LIMIT, numberOf}
+use Rattle.names.specs.declared.Answer.{Answer}
+use Rattle.names.specs.declared.Answer.the-variants.{Going, Yes, No, Limit, Short, Damaged, NoWorker, KeyAbove, IsBusy, IsIdle, NoKind, NoKeyNode, NoDummy}
+use Rattle.header.specs.Header.{nodesOf, dummiesOf, busyBeyond}
+use Rattle.header.proofs.Rows.{busy-beyond}
+use Rattle.record.specs.declared.Worker.{Worker}
+use Rattle.record.specs.Worker.{heldKey, heldDummy}
+use Rattle.story.specs.Run.{State, workerOf, Call, start, step, left, answer, Run, state, key, link, standing, On, Registered, Event, nothing, added, removed, event}
+use Rattle.story.specs.Story
+use Rattle.story.specs.Story.{startsOf, began, NeverDamaged, Free, Holds, HeldByOne, Waiting, OneOf, OnePlace, Change, StepLaw, isAdded, isRemoved, inserted, deleted, Ledger, BitsAgree}
+use Rattle.story.proofs.Chain.{on-in, in-on}
+use Rattle.story.proofs.Facts.{Held, Fact}
+use Rattle.story.proofs.Stable.{Grows}
+use Rattle.story.proofs.Core.{Pasts, recordOf, fact-key, fact-dummy, Inv, not-idle}
+use Rattle.story.proofs.Registers.{regular-odd-all}
+use Rattle.story.proofs.Calls.{InvOf, Made, step-made, start-made}
+use Rattle.story.proofs.Fresh.{ready, fresh-inv}
+
+-- at an own step of the operation in progress the node was on the chain, unmarked, with this next node and this split key
+pub record Saw (r : Run) (i v n nx k : ℕ) : Type 0 where
+  pub call : ℕ
+  pub from : began r v i < call
+  pub upto : call < i
+  pub own : r .call call ≡ step v
+  pub on : On (state r call .nodes) n
+  pub link-is : link (state r call .nodes) n ≡ nx * 2
+  pub key-is : key (state r call .nodes) n ≡ k
+
+-- for what is said of one call alone
+abbrev Anything : Pasts
+Anything v n nx k = Unit {0}
+
+abbrev pub Past : Run → ℕ → Pasts
+Past r i v n nx k = Saw r i v n nx k
+
+pub record Good (r : Run) (i : ℕ) : Type 0 where
+  pub chain : List ℕ
+  pub inv : InvOf (state r i) (Past r i) chain
+
+-- ---- when an operation began
+began-step : (r : Run) (i v w : ℕ) → r .call i ≡ step w → began r v (suc i) ≡ began r v i
+unfolding pick
+began-step r i v w e = rw e
+
+began-other : (r : Run) (i v w kind k : ℕ) → v ≢ w → r .call i ≡ start w kind k → began r v (suc i) ≡ began r v i
+unfolding pick
+began-other r i v w kind k ne e = rw (e, ne-eqb w v (λ q. ne (sym q)))
+
+pub only-going : (a : Answer) → numberOf a ≡ 0 → a ≡ Going
+only-going Going e = refl
+only-going Yes e = absurd (omega arith)
+only-going No e = absurd (omega arith)
+only-going Limit e = absurd (omega arith)
+only-going Short e = absurd (omega arith)
+only-going Damaged e = absurd (omega arith)
+only-going NoWorker e = absurd (omega arith)
+only-going KeyAbove e = absurd (omega arith)
+only-going IsBusy e = absurd (omega arith)
+only-going IsIdle e = absurd (omega arith)
+only-going NoKind e = absurd (omega arith)
+only-going NoKeyNode e = absurd (omega arith)
+only-going NoDummy e = absurd (omega arith)
+
+not-both : (t : Bool) (a b : ℕ) → pick (t && false) a b ≡ b
+unfolding pick
+not-both true a b = refl
+not-both false a b = refl
+
+began-refused : (r : Run) (i v w kind k : ℕ) → answer (state r i) (start w kind k) ≢ Going → r .call i ≡ start w kind k → began r v (suc i) ≡ began r v i
+began-refused r i v w kind k ng e = rw (e, ne-eqb (numberOf (answer (state r i) (start w kind k))) 0 (λ q. ng (only-going (answer (state r i) (start w kind k)) q))) (not-both (eqb w v) i (began r v i))
+
+pub began-le : (r : Run) (v i : ℕ) → began r v i ≤ i
+began-le r v zero = omega arith
+began-le r v (suc i) = both (λ (n : ℕ). n ≤ suc i) (startsOf v (r .call i) (answer (state r i) (r .call i))) (omega arith) (omega (arith, began-le r v i))
+
+pub began-lt : (r : Run) (v i : ℕ) → began r v (suc i) < suc i
+began-lt r v i = both (λ (n : ℕ). n < suc i) (startsOf v (r .call i) (answer (state r i) (r .call i))) (omega arith) (omega (arith, began-le r v i))
+
+-- what was seen stays seen while the operation goes on
+kept : (r : Run) (i v : ℕ) → began r v (suc i) ≡ began r v i → Grows (Past r i v) (Past r (suc i) v)
+kept r i v e a b k s = record { call = s .call; from = rw e (s .from); upto = omega (arith, s .upto); own = s .own; on = s .on; link-is = s .link-is; key-is = s .key-is }
+
+-- a busy worker's operation began before now
+pub alive : (r : Run) (i : ℕ) (g : Good r i) (w : ℕ) → w < state r i .header .w → workerOf (state r i) w .place ≢ IDLE → began r w i < i
+alive r zero g w lt ne =
+    let p = ready (r .first) (r .fresh) in
+    absurd (ne (ap (λ (x : Worker). x .place) (p .rest w (rw (p .header) at lt))))
+alive r (suc i) g w lt ne = began-lt r w i
+
+-- ---- one call
+module _ (r : Run) (i : ℕ) (g : Good r i) where
+  made : (c : Call) → r .call i ≡ c → Made (state r i) (Past r i) (Past r (suc i)) c (left (state r i) c) (event (state r i) c)
+  made (step w) e = step-made (state r i) (Past r i) (Past r (suc i)) (g .chain) (g .inv) w (λ v. kept r i v (began-step r i v w e))
+      (λ lt ne n nx o l. record {
+        call = i;
+        from = rw (began-step r i w w e) (alive r i g w lt ne);
+        upto = omega arith;
+        own = e;
+        on = in-on (state r i .nodes) (g .chain) (g .inv .glob .walk) o;
+        link-is = l;
+        key-is = refl;
+      })
+  made (start w kind k) e = start-made (state r i) (Past r i) (Past r (suc i)) (g .chain) (g .inv) w kind k
+      (λ v ne. kept r i v (began-other r i v w kind k ne e)) (λ ng. kept r i w (began-refused r i w w kind k ng e))
+
+  pub made-at : Made (state r i) (Past r i) (Past r (suc i)) (r .call i) (left (state r i) (r .call i)) (event (state r i) (r .call i))
+  made-at = made (r .call i) refl
+
+pub good : (r : Run) (i : ℕ) → Good r i
+good r zero = record { chain = 1 ∷ []; inv = fresh-inv (r .first) (r .fresh) (Past r 0) }
+good r (suc i) = let k = made-at r i (good r i) in record { chain = k .chain; inv = k .inv }
+
+-- ---- no call answers 12 or 11
+any-call : (s : State) (Ps : Pasts) (c : List ℕ) → InvOf s Ps c → (k : Call) → (answer s k ≢ Damaged) × (answer s k ≢ Short)
+any-call s Ps c inv (step w) =
+    let k = step-made s Ps Anything c inv w (λ v a b n p. tt) (λ lt ne n nx o l. tt) in
+    (k .sound, k .long)
+any-call s Ps c inv (start w kind key) =
+    let k = start-made s Ps Anything c inv w kind key (λ v ne a b n p. tt) (λ ng a b n p. tt) in
+    (k .sound, k .long)
+
+pub never-damaged : NeverDamaged
+never-damaged r i c = let g = good r i in any-call (state r i) (Past r i) (g .chain) (g .inv) c
+
+-- ---- registered keys change by events alone
+pub step-law : StepLaw
+step-law r i = made-at r i (good r i) .change
+
+-- the ledger of a key after one event
+abbrev Balance : List ℕ → ℕ → ℕ → ℕ → Type 0
+Balance ns k ins del = (Registered ns k × (ins ≡ del + 1)) ⊎ ((Registered ns k → ⊥) × (ins ≡ del))
+
+plus-one : (k j a : ℕ) → j ≡ k → pick (eqb j k) 1 0 + a ≡ a + 1
+plus-one k j a e = by-eq (λ (n : ℕ). n + a ≡ a + 1) j k (λ _. omega arith) (λ ne. absurd (ne e))
+
+plus-none : (k j a : ℕ) → j ≢ k → pick (eqb j k) 1 0 + a ≡ a
+plus-none k j a ne = by-eq (λ (n : ℕ). n + a ≡ a) j k (λ e. absurd (ne e)) (λ _. omega arith)
+
+balance : (a b : List ℕ) (ev : Event) (k ins del : ℕ) → k ≤ KEY-LIMIT → Change a b ev → Balance a k ins del → Balance b k (isAdded k ev + ins) (isRemoved k ev + del)
+balance a b nothing k ins del l c (inl p) = inl (c k .still (p .0), omega (arith, p .1))
+balance a b nothing k ins del l c (inr p) = inr (λ q. p .0 (c k .already q), omega (arith, p .1))
+balance a b (added j) k ins del l c p = by (ℕ-discrete j k) p
+  where
+    by : Dec (j ≡ k) → Balance a k ins del → Balance b k (isAdded k (added j) + ins) (0 + del)
+    by (yes e) (inl p) = absurd (c .before (rw e (p .0)))
+    by (yes e) (inr p) = inl (rw e at (c .after), omega (arith, plus-one k j ins e, p .1))
+    by (no ne) (inl p) = inl (c .others k l (λ q. ne (sym q)) .still (p .0), omega (arith, plus-none k j ins ne, p .1))
+    by (no ne) (inr p) = inr (λ q. p .0 (c .others k l (λ q. ne (sym q)) .already q), omega (arith, plus-none k j ins ne, p .1))
+balance a b (removed j) k ins del l c p = by (ℕ-discrete j k) p
+  where
+    by : Dec (j ≡ k) → Balance a k ins del → Balance b k (0 + ins) (isRemoved k (removed j) + del)
+    by (yes e) (inl p) = inr (rw e at (c .after), omega (arith, plus-one k j del e, p .1))
+    by (yes e) (inr p) = absurd (p .0 (rw e at (c .before)))
+    by (no ne) (inl p) = inl (c .others k l (λ q. ne (sym q)) .still (p .0), omega (arith, plus-none k j del ne, p .1))
+    by (no ne) (inr p) = inr (λ q. p .0 (c .others k l (λ q. ne (sym q)) .already q), omega (arith, plus-none k j del ne, p .1))
+
+-- no key is registered in a fresh register
+pub none-yet : (r : Run) (k : ℕ) → Registered (r .first .nodes) k → ⊥
+none-yet r k g =
+    let i = fresh-inv (r .first) (r .fresh) (Past r 0) in
+    let e : key (r .first .nodes) (g .node) ≡ 0 = rw (is-one (on-in (r .first .nodes) (1 ∷ []) (i .glob .walk) (g .on))) (i .glob .zero) in
+    omega (arith, regular-odd-all k, g .has)
+  where
+    is-one : {n : ℕ} → In n (1 ∷ []) → n ≡ 1
+    is-one (here e) = e
+
+pub ledger : Ledger
+ledger r zero k l = inr (none-yet r k, refl)
+ledger r (suc i) k l = balance (state r i .nodes) (state r (suc i) .nodes) (event (state r i) (r .call i)) k (inserted r k i) (deleted r k i) l (step-law r i) (ledger r i k l)
+
+-- ---- busy bits
+pub bits-agree : BitsAgree
+bits-agree r i w lt = good r i .inv .bits w lt (omega arith)

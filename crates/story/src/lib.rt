@@ -1,0 +1,1 @@
+// What holds over every sequence of calls. Statements and proofs; no code.
