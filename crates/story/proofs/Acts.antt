@@ -4,7 +4,7 @@ use mathlib.Core.Path.{_≡_, refl, sym, ap, _∙_}
 use mathlib.Core.Logic.{_≢_, _⊎_, inl, inr, ⊎-elim}
 use mathlib.Core.Bool.{true, false}
 use mathlib.Core.List.{List, List·Memᴰ as In, Memᴰ·cast}
-use Prim.Native.Nat.{ℕ, zero, suc, _+_, _*_, _/_, _%_, _^_, _≤_, _<_}
+use Prim.Native.Nat.{ℕ, _+_, _*_, _%_, _≤_, _<_}
 use native.Mathlib.Omega.{arith}
 use native.Mathlib.Decide.{ℕ-discrete}
 use lib.Pow.{pow-mono}
@@ -22,15 +22,20 @@ use Rattle.names.specs.Names.{KEY-LIMIT}
 use Rattle.story.specs.Run.{key, link, standing, after, mark}
 use Rattle.story.specs.Story.{Same, Added, Removed}
 use Rattle.story.proofs.Memory
-use Rattle.story.proofs.Chain.{Walk, putAfter, cutAfter, put-new, put-old, cut-only, cut-self, some-on, succ-in}
+use Rattle.story.proofs.Chain.{putAfter, cutAfter, put-new, put-old, cut-only, cut-self, some-on, succ-in}
 use Rattle.story.proofs.Facts.{Held, Own, Glob, Later}
-use Rattle.story.proofs.Core.{Pasts, Core, Shift, shift}
-use Rattle.story.proofs.Effects.{linked, linked-later, on-cur, kept, unlinked, unlinked-later, marked, marked-later, penned, penned-later, took, took-later, freed, freed-later}
+use Rattle.story.proofs.Core.{Pasts, Core, shift}
+use Rattle.story.proofs.Effects.{linked, linked-later, kept, unlinked, unlinked-later, marked, marked-later, penned, penned-later, took, took-later, freed, freed-later}
 use Rattle.story.proofs.Registers.{unchanged, linked-same, linked-adds, marked-removes}
 
 -- no register has more nodes than a link can name
 pub few-nodes : (h : Header) → Limits h → nodesOf h < 2147483648
 few-nodes h l = omega (arith, l .buckets .1, l .workers .1, l .keys .1)
+
+-- a node in hand afterwards is none, or was in hand
+from : {a b n : ℕ} {A : Type 0} → Dec (a ≡ 0) → (a ≢ 0 → (a ≡ b) × (a ≢ n)) → (a ≡ 0) ⊎ ((a ≡ b) ⊎ A)
+from (yes e) f = inl e
+from (no ne) f = inr (inl (f ne .0))
 
 module _ {h : Header} {ws : List Worker} {Ps : Pasts} {w k d : ℕ} {c m bs : List ℕ} (core : Core h ws Ps w k d c m bs) where
   abbrev D : ℕ
@@ -191,10 +196,6 @@ module _ {h : Header} {ws : List Worker} {Ps : Pasts} {w k d : ℕ} {c m bs : Li
       waits = λ i v f a b. fwaits i v f a b (ℕ-discrete i n);
       roots = λ i j b. (j, fk i);
     })
-      where
-        from : {a b : ℕ} {A : Type 0} → Dec (a ≡ 0) → (a ≢ 0 → (a ≡ b) × (a ≢ n)) → (a ≡ 0) ⊎ ((a ≡ b) ⊎ A)
-        from (yes e) f = inl e
-        from (no ne) f = inr (inl (f ne .0))
 
   -- the key node, and the dummy: 0 is no node
   pub free-key : Core h ws Ps w 0 d c (put m k STANDING 0) bs
@@ -244,9 +245,6 @@ module _ {h : Header} {ws : List Worker} {Ps : Pasts} {w k d : ℕ} {c m bs : Li
 
     pub aim-same : (j : ℕ) → Same m a₁ j
     aim-same = unchanged D N c m c a₁ g₀ ag (λ i j. ak i) (λ i j l. (j, rw (al i (a-off i j)) l)) (λ i j l. (j, rw (al i (a-off i j)) at l))
-
-    pub aim-own : {lo′ hi′ i x : ℕ} → Own lo′ hi′ c m i x → Own lo′ hi′ c a₁ i x
-    aim-own {i = i} o = record { held = record { low = o .held .low; high = o .held .high; is = ast i ∙ o .held .is; off = o .held .off }; has = ak i ∙ o .has }
 
     pub aim : (n ≡ k) ⊎ (n ≡ d) → Core h ws Ps w k d c a₁ bs
     aim touch = shift core {g = n} (record {
@@ -322,10 +320,6 @@ module _ {h : Header} {ws : List Worker} {Ps : Pasts} {w k d : ℕ} {c m bs : Li
         waits = λ j v f a b. core .waits j v f (rw (ps j) at a) (rw (ps j) at b);
         roots = λ j o b. (put-old i n o, pk j);
       })
-        where
-          from : {a b : ℕ} {A : Type 0} → Dec (a ≡ 0) → (a ≢ 0 → (a ≡ b) × (a ≢ n)) → (a ≡ 0) ⊎ ((a ≡ b) ⊎ A)
-          from (yes e) f = inl e
-          from (no ne) f = inr (inl (f ne .0))
 
       pub place-key : n ≡ k → n ≢ 0 → Core h ws Ps w 0 d (putAfter i n) p₁ bs
       place-key e z = placing 0 d (inl e) (λ y. absurd (y refl)) (λ y. (refl, λ q. two (λ o. z (e ∙ o)) y (q ∙ e))) (yes refl) (ℕ-discrete d 0)

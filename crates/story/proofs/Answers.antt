@@ -3,21 +3,20 @@
 use mathlib.Core.Path.{_≡_, refl, sym, ap, subst, _∙_}
 use mathlib.Core.Logic.{_≢_, _⊎_, inl, inr, ⊎-elim}
 use mathlib.Core.Bool.{Bool, true, false, true≢false}
-use mathlib.Core.List.{List}
-use Prim.Native.Nat.{ℕ, zero, suc, _+_, _*_, _/_, _%_, _≤_, _<_}
+use mathlib.Core.List.{[], _∷_}
+use Prim.Native.Nat.{ℕ, zero, suc, _≤_, _<_}
 use native.Mathlib.Omega.{arith}
 use native.Mathlib.Decide.{ℕ-discrete}
-use lib.ListN.{set}
-use Rattle.choice.specs.Choice.{pick}
 use Rattle.choice.proofs.Auto.{pick-true}
 use Rattle.split.specs.Split.{regular}
-use Rattle.names.specs.Names.{IDLE, INSERT, FIND, DELETE, numberOf}
+use Rattle.names.specs.Names.{IDLE, INSERT, FIND, numberOf}
 use Rattle.names.specs.declared.Answer.{Answer}
-use Rattle.names.specs.declared.Answer.the-variants.{Going, Yes, No, NoKeyNode, NoDummy}
+use Rattle.names.specs.declared.Answer.the-variants.{Going, Yes, No, Limit, Short, Damaged, NoWorker, KeyAbove, IsBusy, IsIdle, NoKind, NoKeyNode, NoDummy}
 use Rattle.header.specs.Header.{nodesOf, dummiesOf}
+use Rattle.record.specs.Rows.{IsOneOf}
 use Rattle.record.specs.declared.Worker.{Worker}
-use Rattle.story.specs.Run.{State, workerOf, Call, start, step, left, answer, Run, state, key, link, after, mark, Registered, Event, nothing, added, removed, event}
-use Rattle.story.specs.Story.{startsOf, began, Belongs, owns, effects, Ends, OwnEffect, OwnEvent, Fits, Moment, TrueAtAMoment}
+use Rattle.story.specs.Run.{State, workerOf, Call, start, step, left, answer, Run, state, key, Registered, Event, nothing, added, removed, event}
+use Rattle.story.specs.Story.{startsOf, began, Belongs, owns, effects, Ends, Operation, OfAnOperation, AnswersAreFromThePaper, OwnEffect, Fits, Moment, TrueAtAMoment}
 use Rattle.story.proofs.Chain.{on-in}
 use Rattle.story.proofs.Registers.{gap}
 use Rattle.story.proofs.Steps.{tookAt, Turned, ToldBy, Presently, Absently}
@@ -98,20 +97,45 @@ quiet-before r w (suc i) z j b u c = by (startsOf w (r .call i) (answer (state r
 same-start : {w a b c d : ℕ} {q : Call} → q ≡ start w a b → q ≡ start w c d → (a ≡ c) × (b ≡ d)
 same-start p q = (cc, cc)
 
+-- ---- every ended answer is that of an operation
+pub of-an-operation : OfAnOperation
+of-an-operation r e w ec d =
+    let n = ending r e w ec d in
+    let p = op r e w n in
+    (x r e w n .kind, x r e w n .key, record { before = alive r e (good r e) w (n .real) (n .busy); started = p .started; going = p .going })
+
+pub answers-are-from-the-paper : AnswersAreFromThePaper
+answers-are-from-the-paper r i c = listed (answer (state r i) c)
+  where
+    listed : (a : Answer) → IsOneOf (numberOf a) (0 ∷ 1 ∷ 2 ∷ 10 ∷ 11 ∷ 12 ∷ 13 ∷ 14 ∷ 15 ∷ 16 ∷ 17 ∷ 18 ∷ 19 ∷ [])
+    listed Going = inl refl
+    listed Yes = inr (inl refl)
+    listed No = inr (inr (inl refl))
+    listed Limit = inr (inr (inr (inl refl)))
+    listed Short = inr (inr (inr (inr (inl refl))))
+    listed Damaged = inr (inr (inr (inr (inr (inl refl)))))
+    listed NoWorker = inr (inr (inr (inr (inr (inr (inl refl))))))
+    listed KeyAbove = inr (inr (inr (inr (inr (inr (inr (inl refl)))))))
+    listed IsBusy = inr (inr (inr (inr (inr (inr (inr (inr (inl refl))))))))
+    listed IsIdle = inr (inr (inr (inr (inr (inr (inr (inr (inr (inl refl)))))))))
+    listed NoKind = inr (inr (inr (inr (inr (inr (inr (inr (inr (inr (inl refl))))))))))
+    listed NoKeyNode = inr (inr (inr (inr (inr (inr (inr (inr (inr (inr (inr (inl refl)))))))))))
+    listed NoDummy = inr (inr (inr (inr (inr (inr (inr (inr (inr (inr (inr (inr (inl refl))))))))))))
+
 -- ---- own effect
-pub own-effect : (r : Run) (i : ℕ) → OwnEffect r i
+pub own-effect : OwnEffect
 own-effect r i = record {
   belongs = belongs (made-at r i (good r i) .tale);
   few = λ w lt. ops r i w lt .few;
   yes = λ w kind k ec st y nf.
       let d = ending r i w ec (inl y) in
       let p = op r i w d in
-      let q = same-start st (p .started) in
+      let q = same-start (st .started) (p .started) in
       let t = d .told .done y (λ f. nf (q .0 ∙ f)) in
       more w ec (d .none) ∙ ⊎-elim (λ o. o .1) (λ o. absurd (true≢false (sym t ∙ o .0))) (p .flag);
   else = λ w kind k ec st en f.
       let d = ending r i w ec en in
-      let q = same-start st (op r i w d .started) in
+      let q = same-start (st .started) (op r i w d .started) in
       more w ec (d .none) ∙ none-of r i w d (undone r i w d (λ y. sym (q .0) ∙ f y) en);
 }
   where
@@ -130,7 +154,7 @@ own-effect r i = record {
     belongs (ends v q l ew en nb td ty) = rw en tt
 
 -- ---- true at a moment
-module _ (r : Run) (e w kind k : ℕ) (ec : r .call e ≡ step w) (st : r .call (began r w e) ≡ start w kind k) where
+module _ (r : Run) (e w kind k : ℕ) (ec : r .call e ≡ step w) (st : Operation r w e kind k) where
   abbrev a : Answer
   a = answer (state r e) (r .call e)
 
@@ -178,7 +202,7 @@ module _ (r : Run) (e w kind k : ℕ) (ec : r .call e ≡ step w) (st : r .call 
       d = ending r e w ec (inl y)
 
       same : (kind ≡ workerOf (state r e) w .kind) × (k ≡ workerOf (state r e) w .key)
-      same = same-start st (op r e w d .started)
+      same = same-start (st .started) (op r e w d .started)
 
       by : Dec (kind ≡ FIND) → M
       by (yes f) = present d (none-of r e w d (find-quiet r e w d (sym (same .0) ∙ f))) (inl (f, y)) (rw (same .1) (d .told .yes y (sym (same .0) ∙ f)))
@@ -198,7 +222,7 @@ module _ (r : Run) (e w kind k : ℕ) (ec : r .call e ≡ step w) (st : r .call 
       d = ending r e w ec (inr (inl n))
 
       same : (kind ≡ workerOf (state r e) w .kind) × (k ≡ workerOf (state r e) w .key)
-      same = same-start st (op r e w d .started)
+      same = same-start (st .started) (op r e w d .started)
 
       none : effects r w e ≡ 0
       none = none-of r e w d (d .told .undone (λ y. let z : _≡_ {A = ℕ} 0 1 = cc in omega arith))

@@ -1,44 +1,43 @@
 -- The places before a search: a bucket's dummy comes before all its keys, a parent's before its child's, and bucket 0 is always set.
 -- Assumes nothing.
-use mathlib.Core.Path.{_≡_, refl, sym, ap, _∙_}
-use mathlib.Core.Logic.{_≢_, _⊎_, inl, inr, ⊎-elim}
+use mathlib.Core.Path.{_≡_, refl, sym, _∙_}
+use mathlib.Core.Logic.{_≢_}
 use mathlib.Core.Bool.{Bool, true, false, true≢false, _&&_}
-use mathlib.Core.List.{List, List·Memᴰ as In}
-use Prim.Native.Nat.{ℕ, zero, suc, _+_, _*_, _/_, _%_, _^_, _≤_, _<_}
+use mathlib.Core.List.{List}
+use Prim.Native.Nat.{ℕ, _%_, _≤_, _<_}
 use native.Mathlib.Omega.{arith}
 use native.Mathlib.Decide.{ℕ-discrete}
 use native.Mathlib.Nat.{mod-lt}
 use lib.Dec.{eqb, ltb}
-use borrow.Author.Tests.{eqb-true, eqb-false, ne-eqb, le-ltb}
+use borrow.Author.Tests.{eqb-true, ne-eqb, le-ltb}
 use Rattle.choice.specs.Choice.{pick}
 use Rattle.choice.proofs.Cases.{by-bool, by-eq}
-use Rattle.split.specs.Split.{regular, dummy, parentOf, nextDown, onPath}
+use Rattle.split.specs.Split.{regular, dummy, parentOf, nextDown}
 use Rattle.split.proofs.Laws.{dummy-first, parent-le, parent-first, on-path-self, on-path-up, on-path-le, next-down-parent}
-use Rattle.words.specs.Words.{STANDING, SPLIT-KEY, TAKEN, put, bucket, store}
+use Rattle.words.specs.Words.{STANDING, SPLIT-KEY, TAKEN, put, bucket}
 use Rattle.scans.specs.Scans.{lowest}
 use Rattle.scans.proofs.Laws.{lowest-free}
-use Rattle.names.specs.Names.{TB, B2, B4, F1, B8, KEY, DUMMY, INSERT, FIND}
-use Rattle.names.specs.declared.Answer.{Answer}
-use Rattle.names.specs.declared.Answer.the-variants.{Yes, No, NoDummy}
+use Rattle.names.specs.Names.{TB, B2, B4, F1, B8, KEY, DUMMY, INSERT}
+use Rattle.names.specs.declared.Answer.the-variants.{NoDummy}
 use Rattle.header.specs.declared.Header.{Header}
 use Rattle.header.specs.Header.{dummiesOf, nodesOf}
 use Rattle.record.specs.declared.Worker.{Worker}
 use Rattle.record.specs.Fields.{to, withErrand, withWanted, withMaking, withStart, withDummy}
 use Rattle.record.specs.Worker.{heldKey, heldDummy}
-use Rattle.moves.specs.declared.Effect.the-variants.{Nothing, Take, Store}
+use Rattle.moves.specs.declared.Effect.the-variants.{Take, Store}
 use Rattle.moves.specs.declared.Move.{Move}
-use Rattle.moves.specs.declared.Move.the-variants.{Damaged, Going, Ended}
+use Rattle.moves.specs.declared.Move.the-variants.{Going}
 use Rattle.moves.specs.Moves.{tb, b2, b4, b8, sz}
-use Rattle.story.specs.Run.{key, link, standing, nothing}
+use Rattle.story.specs.Run.{key, standing}
 use Rattle.story.proofs.Chain.{some-on}
+use Rattle.story.proofs.Registers.{unmoved}
 use Rattle.story.proofs.Facts as F
-use Rattle.story.proofs.Facts.{Glob, Start, Root, Way, Sane, forKey, forDummy}
+use Rattle.story.proofs.Facts.{Glob, forKey, forDummy}
 use Rattle.story.proofs.Stable as st
-use Rattle.story.proofs.Core.{Pasts, Core}
-use Rattle.story.proofs.Effects.{same}
+use Rattle.story.proofs.Core.{Pasts}
 use Rattle.story.proofs.Acts.{take-dummy, take-later, take-same, take-key-is}
 use Rattle.story.proofs.Ends.{stored}
-use Rattle.story.proofs.Steps.{took, ticked, Ctx, me, core, Told, Good, Stands, looks, over, past, upon, seen}
+use Rattle.story.proofs.Steps.{told-neither, took, ticked, Ctx, me, core, Good, Stands, looks, over, past, seen}
 
 module _ {h : Header} {ws : List Worker} {Ps Qs : Pasts} {w : ℕ} {c m bs : List ℕ} (z : Ctx h ws Ps Qs w c m bs) where
   abbrev x : Worker
@@ -121,13 +120,7 @@ module _ {h : Header} {ws : List Worker} {Ps Qs : Pasts} {w : ℕ} {c m bs : Lis
   b4-good s b = by-eq G n 0
       (λ _. by-bool G (eqb (x .kind) INSERT && eqb (x .held) 0)
       (λ t. absurd (b .0 (eqb-true (x .kind) INSERT (and-left (eqb (x .kind) INSERT) (eqb (x .held) 0) t)) (eqb-true (x .held) 0 (and-right (eqb (x .kind) INSERT) (eqb (x .held) 0) t))))
-      (λ _. over z false NoDummy c m (core z) (λ j. record { still = λ r. r; already = λ r. r }) (record {
-        yes = λ a k. let f : _≡_ {A = ℕ} 0 1 = cc in absurd (omega arith);
-        no-there = λ a k. let f : _≡_ {A = ℕ} 0 1 = cc in absurd (omega arith);
-        no-absent = λ a k. let f : _≡_ {A = ℕ} 0 1 = cc in absurd (omega arith);
-        done = λ a k. let f : _≡_ {A = ℕ} 0 1 = cc in absurd (omega arith);
-        undone = λ a. refl;
-      })))
+      (λ _. over z false NoDummy c m (core z) unmoved (told-neither (λ a. let f : _≡_ {A = ℕ} 0 1 = cc in omega arith) (λ a. let f : _≡_ {A = ℕ} 0 1 = cc in omega arith))))
       takes
     where
       n : ℕ
@@ -184,9 +177,6 @@ module _ {h : Header} {ws : List Worker} {Ps Qs : Pasts} {w : ℕ} {c m bs : Lis
       some : x .dummy ≢ 0
       some e = omega (arith, some-on m 0 1 (b .2 .on) (g₀ .walk))
 
-      y : ℕ → ℕ → Worker
-      y p a = to p (withMaking a (withDummy 0 x))
-
       stores : (q : F.Spot) (p a : ℕ) → a < h .m → p ≡ F.number q → F.keyOf q (ticked (to p (withMaking a (withDummy 0 x)))) ≡ heldKey x → F.dumOf q (ticked (to p (withMaking a (withDummy 0 x)))) ≡ 0
           → F.At h w c m (Qs w) q (ticked (to p (withMaking a (withDummy 0 x)))) → took q (x .errand) ≡ false → G (Going (to p (withMaking a (withDummy 0 x))) (Store (x .making) (x .dummy)))
       stores q p a l pl ek ed at t = record {
@@ -204,7 +194,7 @@ module _ {h : Header} {ws : List Worker} {Ps Qs : Pasts} {w : ℕ} {c m bs : Lis
           dum-has = λ n. absurd (n (s .dum));
           at = at;
         };
-        change = λ j. record { still = λ r. r; already = λ r. r };
+        change = unmoved;
         kind = refl;
         same-key = refl;
         turned = t;

@@ -4,12 +4,12 @@ use mathlib.Core.Path.{_≡_, refl, sym, ap, subst, _∙_}
 use mathlib.Core.Logic.{_≢_, _⊎_, inl, inr, ⊎-elim}
 use mathlib.Core.Bool.{Bool, true, false, true≢false, not, _||_}
 use mathlib.Core.List.{List, [], _∷_, List·Memᴰ as In}
-use Prim.Native.Nat.{ℕ, zero, suc, _+_, _*_, _≤_, _<_}
+use Prim.Native.Nat.{ℕ, zero, suc, _*_, _≤_, _<_}
 use native.Mathlib.Omega.{arith}
 use native.Mathlib.Decide.{ℕ-discrete}
 use lib.Dec.{eqb, ltb, leb}
 use lib.ListN.{length, getD, set}
-use borrow.Author.Tests.{eqb-true, eqb-false, le-ltb, leb-true, leb-false, ltb-false, not-true, not-false}
+use borrow.Author.Tests.{eqb-true, eqb-false, le-ltb, leb-false, ltb-false, not-false}
 use Rattle.choice.specs.Choice.{pick}
 use Rattle.choice.proofs.Auto.{pick-false}
 use Rattle.choice.proofs.Cases.{by-bool}
@@ -18,9 +18,9 @@ use Rattle.words.specs.Words.{SPLIT-KEY, word}
 use Rattle.sets.specs.Sets.{bit}
 use Rattle.names.specs.Names.{IDLE, F3, L2, KEY, DUMMY, INSERT, DELETE, KEY-LIMIT, numberOf}
 use Rattle.names.specs.declared.Answer.{Answer}
-use Rattle.names.specs.declared.Answer.the-variants.{Going as GoingOn, Yes, No, Short, Damaged as IsDamaged, NoWorker, KeyAbove, IsBusy, IsIdle, NoKind, NoKeyNode, NoDummy}
+use Rattle.names.specs.declared.Answer.the-variants.{Going as GoingOn, Short, Damaged as IsDamaged, NoWorker, KeyAbove, IsBusy, IsIdle, NoKind}
 use Rattle.header.specs.declared.Header.{Header}
-use Rattle.header.specs.Header.{headerDamaged, nodesOf}
+use Rattle.header.specs.Header.{headerDamaged}
 use Rattle.record.specs.declared.Worker.{Worker}
 use Rattle.record.specs.Worker.{idle, begun, heldKey, heldDummy, workerDamaged}
 use Rattle.moves.specs.declared.Seen.{Seen}
@@ -36,17 +36,16 @@ use Rattle.register.specs.declared.Verdict.the-variants.{Pass, Refused}
 use Rattle.register.specs.Step.{after, refusedWith, wordAt, wordFor, splitFor, seenBy, carried}
 use Rattle.register.specs.Calls.{isShort, startVerdict, startedBy, startOf, stepVerdict, steppedBy, stepOf}
 use Rattle.crew.specs.Crew.{Left, turn, turnAt, stored, startAt, stepAt}
-use Rattle.promises.specs.Unchanged.{Refusal}
 use Rattle.promises.proofs.Shape.{Final, effect-at}
 use Rattle.story.specs.Run.{State, workerOf, Call, start, step, left, key, link, Event, nothing, added, removed, written, taking, stepping, event}
 use Rattle.story.specs.Story.{Change}
+use Rattle.story.proofs.Registers.{unmoved}
 use Rattle.story.proofs.Facts.{Spot, i1, sz, tb, b2, b4, f1, f2, f3, f4, l2, b8, i8, i9, i10, d4a, d4b, d6, number, At, keyOf, dumOf, Busy, Fact}
 use Rattle.story.proofs.Stable as st
 use Rattle.story.proofs.Hands.{key-is, dummy-is}
-use Rattle.story.proofs.Core.{Pasts, recordOf, Agrees, Core, Inv, not-idle}
-use Rattle.story.proofs.Effects.{same}
+use Rattle.story.proofs.Core.{Pasts, recordOf, Agrees, grown, Inv, not-idle}
 use Rattle.story.proofs.Ends.{starts}
-use Rattle.story.proofs.Steps.{took, tookAt, took-is, Turned, ToldBy, ticked, Ctx, me, Told, Good, Stands, gone}
+use Rattle.story.proofs.Steps.{took, tookAt, took-is, Turned, ToldBy, ticked, Ctx, me, Good, Stands, gone}
 use Rattle.story.proofs.Search.{f1-good, f2-good, f3-good, f4-good}
 use Rattle.story.proofs.Buckets.{sz-good, tb-good, b2-good, b4-good, b8-good}
 use Rattle.story.proofs.Operations.{i1-good, i8-good, i9-good, i10-good, l2-good, d4a-good, d4b-good, d6-good}
@@ -141,7 +140,7 @@ regrown {h} {ws} {Ps} {c} {m} {bs} inv Qs up = record {
   glob = inv .glob;
   key-held = inv .key-held;
   dum-held = inv .dum-held;
-  fact = λ v l ne. fact v (recordOf ws v) (inv .fact v l ne);
+  fact = λ v l ne. grown h v c m (Ps v) (Qs v) (up v) (recordOf ws v) (inv .fact v l ne);
   bits = inv .bits;
   apart = inv .apart;
   key-mine = inv .key-mine;
@@ -152,10 +151,6 @@ regrown {h} {ws} {Ps} {c} {m} {bs} inv Qs up = record {
   root₀ = inv .root₀;
   root = inv .root;
 }
-  where
-    fact : (v : ℕ) (x : Worker) → Fact h v c m (Ps v) x → Fact h v c m (Qs v) x
-    fact v x (inl e) = inl e
-    fact v x (inr b) = inr (st.busy h v 0 c m c m (same _ _ v 0 c m) (Ps v) (Qs v) (up v) x b (λ z. z) (λ z. z))
 
 -- a record stored back as it was
 set-back : (ws : List Worker) (w : ℕ) → set ws w (getD ws w idle) ≡ ws
@@ -217,7 +212,7 @@ module _ (s : State) (Ps Qs : Pasts) (c : List ℕ) (inv : InvOf s Ps c) where
   unmade cl w a pl up = record {
     chain = c;
     inv = rw (set-back (s .workers) w) (regrown inv Qs up);
-    change = λ k. record { still = λ r. r; already = λ r. r };
+    change = unmoved;
     tale = refused (set-back (s .workers) w) refl (pl .0) (pl .1) refl;
     sound = λ e. pl .3 (ap numberOf e);
     long = λ e. pl .2 (ap numberOf e);
@@ -265,22 +260,25 @@ module _ (s : State) (Ps Qs : Pasts) (c : List ℕ) (inv : InvOf s Ps c) where
             z : Ctx h (s .workers) Ps Qs w c (s .nodes) (s .buckets)
             z = record { inv = inv; lt = lt; busy = a .1; others = λ v _. up v; mine = up w; see = see lt ne }
 
-            by-move : (mv : Move) → Good z (took (b .spot) (workerOf s w .errand)) mv → Final mv → Ok h (workerOf s w) mv → Made s Ps Qs (step w) (stored (s .workers) w (carried (turnOf w) mv (s .nodes) (s .buckets))) (taking (workerOf s w) mv)
-            by-move Damaged g f y₀ = absurd g
-            by-move (Going y e) g f y₀ = record {
+            by-move : (mv : Move) → Good z (took (b .spot) (workerOf s w .errand)) mv → Final mv → Ok h (workerOf s w) mv
+                → Made s Ps Qs (step w) (stored (s .workers) w (carried (turnOf w) mv (s .nodes) (s .buckets))) (taking (workerOf s w) mv)
+            by-move Damaged g f ty = absurd g
+            by-move (Going y e) g f ty = record {
               chain = g .chain;
               inv = gone z (ticked y) (headerAfter e h) (g .chain) _ _ (rw (sized e h .2) lt) (rw (sized e h .3) (a .1)) (g .next);
               change = g .change;
-              tale = goes w refl lt (ticked y) refl (g .kind) (g .same-key) ne (turns (workerOf s w) (took (b .spot) (workerOf s w .errand)) (took (g .next .spot) (y .errand)) (tookAt (workerOf s w)) (tookAt (ticked y)) (written (workerOf s w) e) (took-is (b .spot) (workerOf s w) (b .place)) (took-is (g .next .spot) (ticked y) (g .next .place)) (g .turned)) refl (y₀ .is);
+              tale = goes w refl lt (ticked y) refl (g .kind) (g .same-key) ne
+                  (turns (workerOf s w) (took (b .spot) (workerOf s w .errand)) (took (g .next .spot) (y .errand)) (tookAt (workerOf s w)) (tookAt (ticked y)) (written (workerOf s w) e)
+                  (took-is (b .spot) (workerOf s w) (b .place)) (took-is (g .next .spot) (ticked y) (g .next .place)) (g .turned)) refl (ty .is);
               sound = λ q. let f : _≡_ {A = ℕ} 0 1 = cc in omega arith;
               long = λ q. let f : _≡_ {A = ℕ} 0 1 = cc in omega arith;
               sizes = (sized e h .0, sized e h .1, sized e h .2);
             }
-            by-move (Ended an e) g f y₀ = record {
+            by-move (Ended an e) g f ty = record {
               chain = g .chain;
               inv = g .after;
               change = rw (g .none) (g .same);
-              tale = ends w refl lt refl (g .none) ne (rw (took-is (b .spot) (workerOf s w) (b .place)) (g .told)) (y₀ .is);
+              tale = ends w refl lt refl (g .none) ne (rw (took-is (b .spot) (workerOf s w) (b .place)) (g .told)) (ty .is);
               sound = λ q. f (rw q (record { from = omega arith; upTo = omega arith }));
               long = λ q. f (rw q (record { from = omega arith; upTo = omega arith }));
               sizes = (sized e h .0, sized e h .1, sized e h .2);
@@ -317,7 +315,7 @@ module _ (s : State) (Ps Qs : Pasts) (c : List ℕ) (inv : InvOf s Ps c) where
     started lt known low rest e = record {
       chain = c;
       inv = starts inv w kind k lt (by-fact (inv .fact w lt (omega arith))) known low Qs upo;
-      change = λ j. record { still = λ r. r; already = λ r. r };
+      change = unmoved;
       tale = begins w kind k refl lt refl refl refl refl (by-fact (inv .fact w lt (omega arith)));
       sound = λ q. let f : _≡_ {A = ℕ} 0 1 = cc in omega arith;
       long = λ q. let f : _≡_ {A = ℕ} 0 1 = cc in omega arith;

@@ -1,9 +1,9 @@
 -- The walk along the chain is sorted, so it meets no node twice, and each law is an induction on where a node stands in it.
 -- Assumes nothing.
-use mathlib.Core.Path.{_≡_, refl, sym, ap, _∙_, subst}
-use mathlib.Core.Logic.{_≢_, _⊎_, inl, inr}
+use mathlib.Core.Path.{_≡_, refl, sym, _∙_}
+use mathlib.Core.Logic.{_≢_}
 use mathlib.Core.List.{List, [], _∷_, List·Memᴰ as In, List·Memᴰ·head as here, List·Memᴰ·tail as there}
-use Prim.Native.Nat.{ℕ, zero, suc, _+_, _*_, _/_, _%_, _≤_, _<_}
+use Prim.Native.Nat.{ℕ, suc, _≤_, _<_}
 use native.Mathlib.Omega.{arith}
 use Rattle.story.specs.Run.{key, after, On, first, then}
 
@@ -143,10 +143,6 @@ put-only (here e) h (there (there j)) ne = there j
 put-only (there i) h (here q) ne = here q
 put-only (there i) h (there j) ne = there (put-only i h j ne)
 
-pub put-self : {p : ℕ} {ns : List ℕ} (i : In p ns) (h : ℕ) → In p (putAfter i h)
-put-self (here e) h = here e
-put-self (there i) h = there (put-self i h)
-
 pub cut-self : {p : ℕ} {ns : List ℕ} (i : In p ns) → In p (cutAfter i)
 cut-self (here e) = here e
 cut-self (there i) = there (cut-self i)
@@ -176,11 +172,6 @@ module _ (m : List ℕ) (p : ℕ) where
   succ-in k a (here {xs = c ∷ ns} e) w ne = there (here {x = c} (rw e (w .rest .is)))
   succ-in k a (there {x = n} i) w ne = there (succ-in (suc (key m n)) (after m n) i (w .rest) ne)
 
-  pub succ-above : (k a : ℕ) {ns : List ℕ} (i : In p ns) → Walk m k a ns → after m p ≢ 0 → key m p < key m (after m p)
-  succ-above k a (here {xs = []} e) w ne = absurd (ne (rw e (w .rest)))
-  succ-above k a (here {xs = c ∷ ns} e) w ne = rw (e, w .rest .is) (w .rest .low)
-  succ-above k a (there {x = n} i) w ne = succ-above (suc (key m n)) (after m n) i (w .rest) ne
-
   pub cut-gone : (k a : ℕ) {ns : List ℕ} (i : In p ns) → Walk m k a ns → after m p ≢ 0 → In (after m p) (cutAfter i) → ⊥
   cut-gone k a (here {xs = []} e) w ne j = ne (rw e (w .rest))
   cut-gone k a (here {x = n} {xs = c ∷ ns} e) w ne (here q) = once m k a n (c ∷ ns) w (here (sym q ∙ rw e (w .rest .is)))
@@ -198,16 +189,6 @@ module _ (m : List ℕ) (p : ℕ) where
       omega (arith, above m (suc k) (after m p) j (raise m (suc (key m n)) (suc k) (after m p) ns hi (rw e (w .rest))))
   between k₀ a k (there {x = n} i) {x} (here q) w lo hi z = omega (arith, above m (suc (key m n)) (after m n) i (w .rest), rw q at z)
   between k₀ a k (there {x = n} i) (there j) w lo hi z = between (suc (key m n)) (after m n) k i j (w .rest) lo hi z
-
--- a walk is determined by where it starts
-pub unique : (m : List ℕ) (k k′ a : ℕ) (ns ns′ : List ℕ) → Walk m k a ns → Walk m k′ a ns′ → ns ≡ ns′
-unique m k k′ a [] [] w w′ = refl
-unique m k k′ a [] (n ∷ ns) w w′ = absurd (omega (arith, w′ .is, w′ .some))
-unique m k k′ a (n ∷ ns) [] w w′ = absurd (omega (arith, w .is, w .some))
-unique m k k′ a (n ∷ ns) (n′ ∷ ns′) w w′ =
-    let e : n ≡ n′ = sym (w .is) ∙ w′ .is in
-    let r : ns ≡ ns′ = unique m (suc (key m n′)) (suc (key m n′)) (after m n′) ns ns′ (rw e at (w .rest)) (w′ .rest) in
-    rw (e, r) refl
 
 -- two nodes of one walk with one key are one node
 pub same-key : (m : List ℕ) (k a : ℕ) {x y : ℕ} {ns : List ℕ} → In x ns → In y ns → Walk m k a ns → key m x ≡ key m y → x ≡ y

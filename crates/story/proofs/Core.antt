@@ -3,12 +3,11 @@
 use mathlib.Core.Path.{_≡_, refl, sym, _∙_}
 use mathlib.Core.Logic.{_≢_, _⊎_, inl, inr, ⊎-elim}
 use mathlib.Core.List.{List, List·Memᴰ as In}
-use Prim.Native.Nat.{ℕ, _+_, _*_, _%_, _^_, _≤_, _<_}
+use Prim.Native.Nat.{ℕ, _^_, _≤_, _<_}
 use native.Mathlib.Omega.{arith}
 use native.Mathlib.Decide.{ℕ-discrete}
 use lib.ListN.{length, getD, set, length-set}
 use lib.Seq.{getD-set-same, getD-set-other}
-use Rattle.split.specs.Split.{dummy}
 use Rattle.words.specs.Words.{TAKEN, bucket}
 use Rattle.sets.specs.Sets.{bit}
 use Rattle.names.specs.Names.{IDLE}
@@ -17,10 +16,11 @@ use Rattle.header.specs.Header.{dummiesOf, nodesOf}
 use Rattle.header.specs.Rows.{Limits, PowerFromTo}
 use Rattle.record.specs.declared.Worker.{Worker}
 use Rattle.record.specs.Worker.{idle, heldKey, heldDummy}
-use Rattle.story.specs.Run.{key, link, standing, mark}
+use Rattle.story.specs.Run.{key, standing}
 use Rattle.words.proofs.Laws.{nothing}
-use Rattle.story.proofs.Facts.{Held, Own, Glob, Root, Spot, number, i1, sz, tb, b2, b4, f1, f2, f3, f4, l2, b8, i8, i9, i10, d4a, d4b, d6, keyOf, dumOf, Busy, Fact, Later}
+use Rattle.story.proofs.Facts.{Held, Glob, Root, Spot, number, i1, sz, tb, b2, b4, f1, f2, f3, f4, l2, b8, i8, i9, i10, d4a, d4b, d6, keyOf, dumOf, Fact, Later}
 use Rattle.story.proofs.Stable as st
+use Rattle.story.proofs.Effects.{same}
 use Rattle.story.proofs.Hands.{key-is, dummy-is, idle-key, idle-dummy}
 
 -- what own steps saw, for each worker
@@ -99,6 +99,11 @@ module _ (h : Header) (v : ℕ) (c m : List ℕ) (P : ℕ → ℕ → ℕ → Ty
   fact-dummy (inl e) z = absurd (z (rw e idle-dummy))
   fact-dummy (inr b) z = rw (dummy-is h v c m P x b) (b .dum (λ q. z (dummy-is h v c m P x b ∙ q)) .held)
 
+-- what own steps saw may grow
+pub grown : (h : Header) (v : ℕ) (c m : List ℕ) (P Q : ℕ → ℕ → ℕ → Type 0) → st.Grows P Q → (x : Worker) → Fact h v c m P x → Fact h v c m Q x
+grown h v c m P Q up x (inl e) = inl e
+grown h v c m P Q up x (inr b) = inr (st.busy h v 0 c m c m (same (dummiesOf h) (nodesOf h) v 0 c m) P Q up x b (λ z. z) (λ z. z))
+
 -- ---- a worker is set aside, and comes back
 module _ {h : Header} {ws : List Worker} {Ps : Pasts} {c m bs : List ℕ} (inv : Inv h ws Ps c m bs) (w : ℕ) (lt : w < h .w) where
   pub whose : Fact h w c m (Ps w) (recordOf ws w)
@@ -144,10 +149,6 @@ module _ {h : Header} {ws : List Worker} {Ps : Pasts} {w k d : ℕ} {c m bs : Li
   there-is : (v : ℕ) → v ≢ w → recordOf ws′ v ≡ recordOf ws v
   there-is v ne = getD-set-other ws w v y idle ne
 
-  grown : (v : ℕ) → v ≢ w → (x : Worker) → Fact h v c m (Ps v) x → Fact h v c m (Qs v) x
-  grown v ne x (inl e) = inl e
-  grown v ne x (inr b) = inr (st.busy h v 0 c m c m (record { prot = λ n p. p; keys = λ n p. refl; dead = λ n p q. refl; root = λ n i e. i; held = λ lo hi n z e q. q; has = λ lo hi n z q. refl }) (Ps v) (Qs v) (up v ne) x b (λ z. z) (λ z. z))
-
   pub back : Inv h ws′ Qs c m bs
   back = record {
     limits = core .limits;
@@ -171,7 +172,7 @@ module _ {h : Header} {ws : List Worker} {Ps : Pasts} {w k d : ℕ} {c m bs : Li
     where
       fact : (v : ℕ) → v < h .w → Dec (v ≡ w) → Fact h v c m (Qs v) (recordOf ws′ v)
       fact v l (yes e) = rw (e, here-is) f
-      fact v l (no ne) = rw (there-is v ne) (grown v ne (recordOf ws v) (core .fact v l ne))
+      fact v l (no ne) = rw (there-is v ne) (grown h v c m (Ps v) (Qs v) (up v ne) (recordOf ws v) (core .fact v l ne))
 
       bits : (v : ℕ) → v < h .w → Dec (v ≡ w) → Agrees (recordOf ws′ v) (bit v (h .busy))
       bits v l (yes e) = rw (e, here-is) ag

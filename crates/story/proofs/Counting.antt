@@ -1,25 +1,22 @@
 -- Each call keeps the count's equation: an event is to be counted from its own step on, and I9 or D6 counts it; keys are few, so a word holds the sum.
 -- Assumes nothing.
-use mathlib.Core.Path.{_≡_, refl, sym, ap, subst, _∙_}
-use mathlib.Core.Logic.{_≢_, _⊎_, inl, inr, ⊎-elim}
-use mathlib.Core.Bool.{Bool, true, false}
+use mathlib.Core.Path.{_≡_, refl, ap}
+use mathlib.Core.Logic.{_⊎_, inl, inr, ⊎-elim}
 use mathlib.Core.List.{List}
-use Prim.Native.Nat.{ℕ, zero, suc, _+_, _%_, _≤_, _<_}
+use Prim.Native.Nat.{ℕ, zero, suc, _+_, _≤_, _<_}
 use native.Mathlib.Omega.{arith}
 use native.Mathlib.Decide.{ℕ-discrete}
 use lib.Dec.{eqb}
 use lib.ListN.{length, getD, set}
 use lib.Seq.{getD-set-same, getD-set-other}
-use Rattle.choice.specs.Choice.{pick}
 use Rattle.choice.proofs.Cases.{both}
 use Rattle.names.specs.Names.{INSERT}
 use Rattle.header.specs.declared.Header.{Header}
-use Rattle.header.specs.Header.{nodesOf}
 use Rattle.record.specs.declared.Worker.{Worker}
 use Rattle.record.specs.Worker.{idle, fresh, begun}
 use Rattle.moves.specs.Moves.{countUp, countDown}
-use Rattle.story.specs.Run.{State, workerOf, left, Run, state, Event, nothing, added, removed, event}
-use Rattle.story.specs.Story.{uncountedIn, uncountedOut, sumOf, adds, removes, additions, removals, Counts}
+use Rattle.story.specs.Run.{State, workerOf, left, Run, state, Event, nothing, event}
+use Rattle.story.specs.Story.{uncountedIn, uncountedOut, sumOf, adds, removes, additions, removals, Count}
 use Rattle.story.proofs.Tally.{Tally, none}
 use Rattle.story.proofs.Calls.{Tale, refused, begins, goes, ends}
 use Rattle.story.proofs.Fresh.{Ready, ready, kept}
@@ -193,8 +190,8 @@ sum r zero = (rw z (omega arith), inl (omega (arith, z, a, b)))
     b = sum-idle uncountedOut none (r .first .workers) (r .first .header .w) rest
 sum r (suc i) = sum-suc r i (sum r i) (made-at r i (good r i) .tale)
 
-pub counts : (r : Run) (i : ℕ) → Counts r i
-counts r i =
+pub count : Count
+count r i =
     let e = sum r i in
     let b = bounds r i in
     ⊎-elim (λ q. inl (omega (arith, b .few-in, b .few-out, b .above, b .below), q)) (λ q. inr (omega (arith, b .few-in, b .few-out, b .above, b .below), q)) (e .1)

@@ -1,10 +1,9 @@
--- The few ways in which a step changes the nodes: each keeps what holds of the nodes, and what the workers know outlives it.
--- An effect is given by equations between the words before and after, so nothing here computes with a store.
+-- The few ways in which a step changes the nodes, by equations between the words before and after: each keeps what holds of the nodes, and what the workers know outlives it.
 -- Assumes nothing.
-use mathlib.Core.Path.{_≡_, refl, sym, ap, _∙_}
+use mathlib.Core.Path.{_≡_, refl, sym, _∙_}
 use mathlib.Core.Logic.{_≢_, _⊎_, inl, inr}
-use mathlib.Core.List.{List, [], _∷_, List·Memᴰ as In}
-use Prim.Native.Nat.{ℕ, zero, suc, _+_, _*_, _/_, _%_, _≤_, _<_}
+use mathlib.Core.List.{List, List·Memᴰ as In}
+use Prim.Native.Nat.{ℕ, zero, suc, _+_, _*_, _%_, _≤_, _<_}
 use native.Mathlib.Omega.{arith}
 use native.Mathlib.Decide.{ℕ-discrete}
 use lib.ListN.{length}
@@ -15,7 +14,7 @@ use Rattle.scans.specs.Scans.{leave}
 use Rattle.scans.proofs.Laws.{leave-set, leave-taken, leave-le}
 use Rattle.words.proofs.Laws.{nothing}
 use Rattle.story.specs.Run.{key, link, standing, after, mark}
-use Rattle.story.proofs.Chain.{Walk, putAfter, cutAfter, frame, insert, unlink, put-new, put-old, put-only, cut-old, cut-only, cut-gone, succ-in, some-on, root-on}
+use Rattle.story.proofs.Chain.{putAfter, cutAfter, frame, insert, unlink, put-old, put-only, cut-old, cut-only, cut-gone, succ-in, some-on, root-on}
 use Rattle.story.proofs.Facts.{Waits, Prot, Held, Glob, Later}
 
 -- a read

@@ -1,35 +1,33 @@
 -- A header's words, a bucket, the sweep, the end of an operation and its start: each leaves the chain as it is.
 -- Assumes nothing.
 use mathlib.Core.Path.{_≡_, refl, sym, ap, _∙_}
-use mathlib.Core.Logic.{_≢_, _⊎_, inl, inr, ⊎-elim}
-use mathlib.Core.List.{List, List·Memᴰ as In}
-use Prim.Native.Nat.{ℕ, zero, suc, _+_, _*_, _/_, _%_, _^_, _≤_, _<_}
+use mathlib.Core.Logic.{_≢_, inl, inr, ⊎-elim}
+use mathlib.Core.List.{List}
+use Prim.Native.Nat.{ℕ, zero, suc, _^_, _≤_, _<_}
 use native.Mathlib.Omega.{arith}
 use native.Mathlib.Decide.{ℕ-discrete}
-use lib.Dec.{eqb}
-use lib.ListN.{length, set}
-use Rattle.choice.specs.Choice.{pick}
+use lib.ListN.{set}
 use Rattle.choice.proofs.Cases.{by-eq, both}
-use Rattle.split.specs.Split.{regular, dummy}
+use Rattle.split.specs.Split.{dummy}
 use Rattle.words.specs.Words.{SPLIT-KEY, LINK, STANDING, TAKEN, put, bucket, store}
-use Rattle.words.proofs.Laws.{nothing, put-length, store-length, store-same, store-other}
+use Rattle.words.proofs.Laws.{nothing, store-length, store-same, store-other}
 use Rattle.sets.specs.Sets.{bit, dropped, raised}
 use Rattle.sets.proofs.Laws.{bit-some, dropped-same, dropped-other, dropped-lt, raised-same, raised-other, raised-lt}
 use Rattle.scans.specs.Scans.{leave, sweep}
 use Rattle.scans.proofs.Laws.{leave-set, leave-taken, leave-le, sweep-length, sweep-word, sweep-standing}
-use Rattle.names.specs.Names.{IDLE, I1, SZ, KEY, INSERT, DELETE, KEY-LIMIT}
+use Rattle.names.specs.Names.{I1, SZ, INSERT, DELETE, KEY-LIMIT}
 use Rattle.header.specs.declared.Header.{Header}
 use Rattle.header.specs.Header.{dummiesOf, nodesOf, busied}
 use Rattle.header.specs.Rows.{PowerFromTo}
 use Rattle.record.specs.declared.Worker.{Worker}
 use Rattle.record.specs.Worker.{fresh, idle, begun, heldKey, heldDummy}
-use Rattle.story.specs.Run.{key, link, standing, after, mark}
+use Rattle.story.specs.Run.{key, link, standing}
 use Rattle.story.specs.Story.{Same}
 use Rattle.story.proofs.Memory
-use Rattle.story.proofs.Facts.{Glob, Root, Spot, i1, sz, tb, b2, b4, f1, f2, f3, f4, l2, b8, i8, i9, i10, d4a, d4b, d6, At, Sane, Busy, Fact, Later}
+use Rattle.story.proofs.Facts.{Root, Spot, i1, sz, tb, b2, b4, f1, f2, f3, f4, l2, b8, i8, i9, i10, d4a, d4b, d6, At, Sane, Busy, Fact}
 use Rattle.story.proofs.Stable.{Grows}
 use Rattle.story.proofs.Hands.{idle-key, idle-dummy}
-use Rattle.story.proofs.Core.{Pasts, recordOf, Agrees, Core, Inv, Shift, shift, aside, whose, back, not-idle}
+use Rattle.story.proofs.Core.{Pasts, recordOf, Core, Inv, shift, aside, back, not-idle}
 use Rattle.story.proofs.Effects.{swept, swept-later}
 use Rattle.story.proofs.Registers.{unchanged}
 use Rattle.story.proofs.Acts.{free-key, free-dummy}

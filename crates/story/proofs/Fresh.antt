@@ -2,9 +2,9 @@
 -- Assumes nothing.
 use mathlib.Core.Path.{_≡_, refl, sym, ap, subst, _∙_}
 use mathlib.Core.Logic.{_≢_, _⊎_, inl, inr}
-use mathlib.Core.Bool.{Bool, true, false, true≢false}
-use mathlib.Core.List.{List, [], _∷_, List·Memᴰ as In, List·Memᴰ·head as here, List·Memᴰ·tail as there}
-use Prim.Native.Nat.{ℕ, zero, suc, _+_, _*_, _/_, _%_, _^_, _≤_, _<_}
+use mathlib.Core.Bool.{false}
+use mathlib.Core.List.{List, [], _∷_, List·Memᴰ as In, List·Memᴰ·head as here}
+use Prim.Native.Nat.{ℕ, zero, suc, _*_, _≤_, _<_}
 use native.Mathlib.Omega.{arith}
 use native.Mathlib.Decide.{ℕ-discrete}
 use lib.Dec.{eqb, ltb}
@@ -23,7 +23,7 @@ use Rattle.sets.specs.Sets.{bit}
 use Rattle.sets.proofs.Laws.{bit-zero}
 use Rattle.names.specs.Names.{numberOf}
 use Rattle.names.specs.declared.Answer.{Answer}
-use Rattle.names.specs.declared.Answer.the-variants.{Going, Limit, Short}
+use Rattle.names.specs.declared.Answer.the-variants.{Going}
 use Rattle.header.specs.declared.Header.{Header}
 use Rattle.header.specs.Header.{nodesOf, dummiesOf, limitBroken}
 use Rattle.header.specs.Rows as rows
@@ -32,15 +32,14 @@ use Rattle.record.specs.declared.Worker.{Worker}
 use Rattle.record.specs.Worker.{idle}
 use Rattle.register.specs.declared.Limits.{Limits}
 use Rattle.register.specs.declared.Verdict.{Verdict}
-use Rattle.register.specs.declared.Verdict.the-variants.{Pass, Refused}
 use Rattle.register.specs.Calls.{Kept, isShort, freshHeader, prepareVerdict, preparedBy, prepared}
 use Rattle.crew.specs.Crew.{Left, tooFewFor, filled, idled, prepareAt}
 use Rattle.promises.specs.Fresh as fresh
 use Rattle.promises.proofs.Fresh.{prepare-fresh}
-use Rattle.story.specs.Run.{State, workerOf, stateOf, Fresh, key, link, standing, after, mark}
+use Rattle.story.specs.Run.{State, stateOf, Fresh, key, link, standing}
 use Rattle.story.proofs.Facts.{Root}
 use Rattle.story.proofs.Hands.{idle-key, idle-dummy}
-use Rattle.story.proofs.Core.{Pasts, recordOf, Core, Inv}
+use Rattle.story.proofs.Core.{Pasts, recordOf, Inv}
 use Rattle.story.proofs.Calls.{InvOf}
 
 -- ---- what preparing asked for
@@ -71,6 +70,11 @@ filled-at (suc n) x ws v l b = by (ℕ-discrete v n) (λ q. filled-at n x ws v q
     by : Dec (v ≡ n) → (v < n → getD (filled n x ws) v idle ≡ x) → getD (set (filled n x ws) n x) v idle ≡ x
     by (yes e) rest = rw e (getD-set-same (filled n x ws) n x idle (omega (arith, filled-length n x ws)))
     by (no ne) rest = getD-set-other (filled n x ws) n v x idle ne ∙ rest (omega arith)
+
+filled-past : (n : ℕ) (x : Worker) (ws : List Worker) (v : ℕ) → n ≤ v → getD (filled n x ws) v idle ≡ getD ws v idle
+unfolding filled
+filled-past zero x ws v b = refl
+filled-past (suc n) x ws v b = getD-set-other (filled n x ws) n v x idle (λ e. omega arith) ∙ filled-past n x ws v (omega arith)
 
 dummy-zero : dummy 0 ≡ 0
 unfolding dummy reverse
@@ -184,6 +188,9 @@ module _ (l : Limits) (h : Header) (ws : List Worker) (ns bs : List ℕ) where
   unfolding tooFewFor
   too-few = both (λ (a : Answer). a ≡ Going → ⊥) (limitBroken (freshHeader l)) (λ e. omega (arith, ap numberOf e)) (λ e. omega (arith, ap numberOf e))
 
+  workers : made .out .answer ≡ Going → pick (eqb (numberOf (made .out .answer)) 0) (idled (l .w) ws) ws ≡ filled (l .w) idle ws
+  workers e = pick-true (eqb (numberOf (made .out .answer)) 0) (idled (l .w) ws) ws (rw e refl)
+
   readies : Readies (prepareAt l h ws ns bs)
   unfolding prepareAt Readies
   readies = by-bool Readies (ltb (length ws) (l .w)) (λ _ e. absurd (too-few e)) (λ t e. record {
@@ -194,9 +201,14 @@ module _ (l : Limits) (h : Header) (ws : List Worker) (ns bs : List ℕ) where
     enough = rw (workers e, filled-length (l .w) idle ws) (ltb-false (length ws) (l .w) t);
     rest = λ v lt. rw (workers e) (filled-at (l .w) idle ws v lt (ltb-false (length ws) (l .w) t));
   })
-    where
-      workers : made .out .answer ≡ Going → pick (eqb (numberOf (made .out .answer)) 0) (idled (l .w) ws) ws ≡ filled (l .w) idle ws
-      workers e = pick-true (eqb (numberOf (made .out .answer)) 0) (idled (l .w) ws) ws (rw e refl)
+
+  -- a record past W stays
+  Leaves : ℕ → Left → Type 0
+  Leaves v a = a .called .answer ≡ Going → recordOf (a .workers) v ≡ recordOf ws v
+
+  pub leaves : (v : ℕ) → l .w ≤ v → prepareAt l h ws ns bs .called .answer ≡ Going → recordOf (prepareAt l h ws ns bs .workers) v ≡ recordOf ws v
+  unfolding prepareAt Leaves
+  leaves v b = by-bool (Leaves v) (ltb (length ws) (l .w)) (λ _ e. refl) (λ t e. rw (workers e) (filled-past (l .w) idle ws v b))
 
   pub is-ready : prepareAt l h ws ns bs .called .answer ≡ Going → Ready l made (stateOf (prepareAt l h ws ns bs))
   unfolding Readies
@@ -216,3 +228,8 @@ module _ (s : State) (fr : Fresh s) where
       rw (ready .header, ready .nodes, ready .buckets)
       (fresh-core (fr .limits) (fr .nodes) (fr .buckets) kept (prepare-fresh (fr .limits) (fr .header) (fr .nodes) (fr .buckets) (ready .going))
       (limits (freshHeader (fr .limits)) .sound (a .0)) (b .0) (b .1) (s .workers) (ready .enough) (ready .rest) Ps)
+
+  pub past-records : (v : ℕ) → fr .limits .w ≤ v → recordOf (s .workers) v ≡ recordOf (fr .workers) v
+  past-records v b =
+      ap (λ (t : State). recordOf (t .workers) v) (fr .is) ∙
+      leaves (fr .limits) (fr .header) (fr .workers) (fr .nodes) (fr .buckets) v b (fr .going)

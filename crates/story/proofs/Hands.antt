@@ -1,16 +1,16 @@
 -- What a record holds is read off its place, errand and kind: the tests compute once the place is known.
 -- Assumes nothing.
-use mathlib.Core.Path.{_≡_, refl, sym, _∙_}
+use mathlib.Core.Path.{_≡_, refl, _∙_}
 use mathlib.Core.Bool.{Bool, true, false, _&&_, not}
 use mathlib.Core.List.{List}
 use Prim.Native.Nat.{ℕ}
-use lib.Dec.{eqb, leb}
+use lib.Dec.{eqb}
 use Rattle.choice.specs.Choice.{pick}
-use Rattle.names.specs.Names.{SZ, F1, L2, B8, DUMMY, EXTRA, INSERT, DELETE}
+use Rattle.names.specs.Names.{SZ, F1, L2, B8, DUMMY, EXTRA, INSERT}
 use Rattle.header.specs.declared.Header.{Header}
 use Rattle.record.specs.declared.Worker.{Worker}
 use Rattle.record.specs.Worker.{idle, within, heldKey, heldDummy}
-use Rattle.story.proofs.Facts.{Spot, i1, sz, tb, b2, b4, f1, f2, f3, f4, l2, b8, i8, i9, i10, d4a, d4b, d6, number, Aim, forKey, forDummy, forExtra, AimOf, At, inHand, sought, keyOf, dumOf, Busy}
+use Rattle.story.proofs.Facts.{Spot, i1, sz, tb, b2, b4, f1, f2, f3, f4, l2, b8, i8, i9, i10, d4a, d4b, d6, number, Aim, forKey, forDummy, forExtra, AimOf, At, inHand, keyOf, dumOf, Busy}
 
 -- the two definitions over place, errand, kind and number
 abbrev kept : ℕ → ℕ → ℕ → ℕ → ℕ

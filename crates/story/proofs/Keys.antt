@@ -1,7 +1,7 @@
 -- The registered keys make a list that events lengthen and shorten; each has a node of its own on the chain, so there are at most as many as nodes.
 -- Assumes nothing.
 use mathlib.Core.Path.{_≡_, refl, sym, ap, _∙_}
-use mathlib.Core.Logic.{_≢_, _⊎_, inl, inr, ⊎-elim}
+use mathlib.Core.Logic.{_≢_, inl, inr}
 use mathlib.Core.Bool.{Bool}
 use mathlib.Core.List.{List, [], _∷_, List·Memᴰ as In, List·Memᴰ·head as here, List·Memᴰ·tail as there, Memᴰ·cast, List·Memᴰ·not-nil}
 use Prim.Native.Nat.{ℕ, zero, suc, _+_, _≤_, _<_}
@@ -16,7 +16,7 @@ use Rattle.split.proofs.Laws.{regular-inj}
 use Rattle.names.specs.Names.{IDLE, KEY-LIMIT}
 use Rattle.header.specs.Header.{nodesOf, dummiesOf}
 use Rattle.record.specs.declared.Worker.{Worker}
-use Rattle.story.specs.Run.{State, workerOf, left, Run, state, key, Registered, Event, nothing, added, removed, event}
+use Rattle.story.specs.Run.{workerOf, left, Run, state, key, Registered, Event, nothing, added, removed, event}
 use Rattle.story.specs.Story.{Change, adds, removes, additions, removals}
 use Rattle.story.proofs.Chain.{on-in, some-on}
 use Rattle.story.proofs.Facts.{Glob, Fact}

@@ -3,8 +3,8 @@ pub mod Chain
 pub mod Facts
 pub mod Stable
 pub mod Hands
-pub mod Core
 pub mod Effects
+pub mod Core
 pub mod Registers
 pub mod Acts
 pub mod Ends

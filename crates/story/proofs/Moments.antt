@@ -4,30 +4,26 @@ use mathlib.Core.Path.{_≡_, refl, sym, ap, subst, _∙_}
 use mathlib.Core.Logic.{_≢_, _⊎_, inl, inr, ⊎-elim}
 use mathlib.Core.Bool.{Bool, true, false, true≢false, _&&_}
 use mathlib.Core.List.{List}
-use Prim.Native.Nat.{ℕ, zero, suc, _+_, _*_, _≤_, _<_}
+use Prim.Native.Nat.{ℕ, zero, suc, _+_, _≤_, _<_}
 use native.Mathlib.Omega.{arith}
 use native.Mathlib.Decide.{ℕ-discrete}
 use lib.Dec.{eqb}
-use lib.ListN.{length, getD, set}
+use lib.ListN.{getD, set}
 use lib.Seq.{getD-set-same, getD-set-other}
 use borrow.Author.Tests.{ne-eqb, eq-eqb}
-use Rattle.choice.specs.Choice.{pick}
 use Rattle.choice.proofs.Auto.{pick-true, pick-false}
-use Rattle.choice.proofs.Cases.{by-bool, by-eq, both}
-use Rattle.split.specs.Split.{regular}
-use Rattle.names.specs.Names.{IDLE, I1, SZ, INSERT, FIND, DELETE, numberOf}
+use Rattle.choice.proofs.Cases.{both}
+use Rattle.names.specs.Names.{IDLE, INSERT, numberOf}
 use Rattle.names.specs.declared.Answer.{Answer}
-use Rattle.names.specs.declared.Answer.the-variants.{Going, Yes, No, NoKeyNode, NoDummy}
+use Rattle.names.specs.declared.Answer.the-variants.{Going}
 use Rattle.record.specs.declared.Worker.{Worker}
 use Rattle.record.specs.Worker.{idle, fresh, begun}
-use Rattle.story.specs.Run.{State, workerOf, Call, start, step, left, answer, Run, state, key, link, mark, Registered, Event, nothing, added, removed, event}
-use Rattle.story.specs.Story.{startsOf, began, Belongs, owns, effects, Ends, OwnEffect, OwnEvent, Fits, Moment, TrueAtAMoment}
-use Rattle.story.proofs.Chain.{on-in}
-use Rattle.story.proofs.Registers.{gap}
-use Rattle.story.proofs.Steps.{tookAt, Turned, ToldBy, Presently, Absently}
-use Rattle.story.proofs.Calls.{Tale, refused, begins, goes, ends, Made}
+use Rattle.story.specs.Run.{State, workerOf, Call, start, step, left, answer, Run, state, key, Event, nothing, added, removed, event}
+use Rattle.story.specs.Story.{startsOf, began, owns, effects, OwnEvent}
+use Rattle.story.proofs.Steps.{tookAt, Turned}
+use Rattle.story.proofs.Calls.{Tale, refused, begins, goes, ends}
 use Rattle.story.proofs.Fresh.{Ready, ready, kept as left-by}
-use Rattle.story.proofs.Theorem.{Saw, Past, Good, good, made-at, alive}
+use Rattle.story.proofs.Theorem.{Past, good, made-at, alive}
 
 -- ---- what a call does to when an operation began and to how many events it had
 -- the call starts no operation of w
@@ -75,6 +71,7 @@ pub record EventIn (r : Run) (i w kind k : ℕ) : Type 0 where
 
 pub record Op (r : Run) (i w : ℕ) (x : Worker) : Type 0 where
   pub started : r .call (began r w i) ≡ start w (x .kind) (x .key)
+  pub going : answer (state r (began r w i)) (r .call (began r w i)) ≡ Going
   pub flag : ((tookAt x ≡ true) × (effects r w i ≡ 1) × EventIn r i w (x .kind) (x .key)) ⊎ ((tookAt x ≡ false) × (effects r w i ≡ 0))
 
 pub record Ops (r : Run) (i w : ℕ) (x : Worker) : Type 0 where
@@ -87,6 +84,7 @@ same-op r i w x eb ee o = record {
   few = rw ee (o .few);
   busy = λ ne. record {
     started = rw eb (o .busy ne .started);
+    going = rw eb (o .busy ne .going);
     flag = ⊎-elim (λ p. inl (p .0, ee ∙ p .1, record { call = p .2 .call; from = rw eb (p .2 .from); upto = omega (arith, p .2 .upto); own = p .2 .own; what = p .2 .what }))
         (λ p. inr (p .0, ee ∙ p .1)) (o .busy ne .flag);
   };
@@ -145,6 +143,7 @@ module _ (r : Run) (i w : ℕ) (o : Ops r i w (workerOf (state r i) w)) (lt : w 
           few = omega arith;
           busy = λ _. record {
             started = rw (kept .0, ek, ey) (p .started);
+            going = rw (kept .0) (p .going);
             flag = inl (t, one, record { call = i; from = rw (kept .0) (alive r i (good r i) w lt nb); upto = omega arith; own = ec; what = rw (ek, ey) what });
           };
         }
@@ -158,6 +157,7 @@ module _ (r : Run) (i w : ℕ) (o : Ops r i w (workerOf (state r i) w)) (lt : w 
           few = q .few;
           busy = λ _. record {
             started = rw (ek, ey) (q .busy nb .started);
+            going = q .busy nb .going;
             flag = ⊎-elim (λ f. inl (t ∙ f .0, f .1, rw (ek, ey) (f .2))) (λ f. inr (t ∙ f .0, f .1)) (q .busy nb .flag);
           };
         }
@@ -184,7 +184,7 @@ module _ (r : Run) (i w : ℕ) (o : Ops r i w (workerOf (state r i) w)) (lt : w 
           let ee : effects r w (suc i) ≡ 0 = pick-true _ 0 (owns w (r .call i) ev + effects r w i) st in
           rw (here-is (begun kind k) (rw q at ew)) (record {
             few = omega arith;
-            busy = λ _. record { started = rw (eb, begun-kind kind k .0, begun-kind kind k .1) (rw q at ec); flag = inr (begun-took kind k, ee) };
+            busy = λ _. record { started = rw (eb, begun-kind kind k .0, begun-kind kind k .1) (rw q at ec); going = rw eb ea; flag = inr (begun-took kind k, ee) };
           })
       by (no ne) =
           let st : startsOf w (r .call i) (answer s (r .call i)) ≡ false = rw (ec, ne-eqb v w ne) refl in

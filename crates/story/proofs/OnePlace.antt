@@ -1,36 +1,37 @@
 -- A node's standing says which of the four it is, and the chain and the hands of the workers share no node.
 -- Assumes nothing.
 use mathlib.Core.Path.{_≡_, refl, sym, ap, _∙_}
-use mathlib.Core.Logic.{_≢_, _⊎_, inl, inr, ⊎-elim}
+use mathlib.Core.Logic.{_⊎_, inl, inr, ⊎-elim}
 use mathlib.Core.List.{List, List·Memᴰ as In}
-use Prim.Native.Nat.{ℕ, zero, suc, _+_, _*_, _^_, _≤_, _<_}
+use Prim.Native.Nat.{ℕ, zero, suc, _*_, _≤_, _<_}
 use native.Mathlib.Omega.{arith}
 use native.Mathlib.Decide.{ℕ-discrete}
 use borrow.Author.Tests.{le-leb}
 use lib.Dec.{ltb}
-use lib.ListN.{length, getD}
-use Rattle.choice.specs.Choice.{pick}
+use lib.ListN.{length, getD, set}
+use lib.Seq.{getD-set-other}
 use Rattle.choice.proofs.Cases.{by-bool}
-use Rattle.words.specs.Words.{TAKEN, LARGEST-SET}
+use Rattle.words.specs.Words.{TAKEN}
 use Rattle.sets.specs.Sets.{bit}
 use Rattle.sets.proofs.Laws.{bit-some}
 use Rattle.header.specs.declared.Header.{Header}
 use Rattle.header.specs.Header.{nodesOf, dummiesOf, busyBeyond}
 use Rattle.header.proofs.Rows.{busy-beyond}
-use Rattle.record.specs.Worker.{heldKey, heldDummy}
+use Rattle.record.specs.declared.Worker.{Worker}
+use Rattle.record.specs.Worker.{idle, begun, heldKey, heldDummy}
 use Rattle.register.specs.declared.Limits.{Limits}
 use Rattle.register.specs.Calls.{Kept, freshHeader}
 use Rattle.promises.specs.Fresh as F
 use Rattle.crew.specs.Crew.{Left, turnAt, startAt, stepAt}
 use Rattle.promises.proofs.Fresh.{prepare-fresh}
 use Rattle.promises.proofs.WritesOnly.{beyond-kept}
-use Rattle.story.specs.Run.{State, workerOf, Call, start, step, left, Run, state, standing, On}
+use Rattle.story.specs.Run.{State, workerOf, Call, start, step, left, Run, state, standing, On, event}
 use Rattle.story.specs.Story.{Free, Holds, HeldByOne, Waiting, OneOf, OnePlace, PastKept}
 use Rattle.story.proofs.Chain.{on-in, in-on}
 use Rattle.story.proofs.Facts.{Held}
 use Rattle.story.proofs.Core.{Pasts, fact-key, fact-dummy, Holder}
-use Rattle.story.proofs.Calls.{InvOf}
-use Rattle.story.proofs.Fresh.{ready, kept}
+use Rattle.story.proofs.Calls.{InvOf, Tale, refused, begins, goes, ends}
+use Rattle.story.proofs.Fresh.{ready, kept, past-records}
 use Rattle.story.proofs.Theorem.{Past, good, made-at}
 
 -- a set that is not empty has a worker
@@ -117,14 +118,32 @@ fresh-past : (l : Limits) (ns bs : List ℕ) (k : Kept) → F.Fresh l ns bs k �
     → (nodesOf h * 3 ≤ n → getD ms n 0 ≡ getD ns n 0) × (h .m ≤ n → getD cs n 0 ≡ getD bs n 0)
 fresh-past l ns bs k f h ms cs eh em ec n = rw (eh, em, ec) (f .past-nodes n, f .past-buckets n)
 
+-- a call of worker w changes no record but that of w, which is below W
+call-record : (r : Run) (i n : ℕ) → state r i .header .w ≤ n → workerOf (state r (suc i)) n ≡ workerOf (state r i) n
+call-record r i n b = by (made-at r i (good r i) .tale)
+  where
+    other : (w : ℕ) (y : Worker) → w < state r i .header .w → state r (suc i) .workers ≡ set (state r i .workers) w y → workerOf (state r (suc i)) n ≡ workerOf (state r i) n
+    other w y l e = rw e (getD-set-other (state r i .workers) w n y idle (λ q. omega arith))
+
+    by : Tale (state r i) (Past r i) (r .call i) (left (state r i) (r .call i)) (event (state r i) (r .call i)) → workerOf (state r (suc i)) n ≡ workerOf (state r i) n
+    by (refused ew en lo hi hc) = ap (λ (ws : List Worker). getD ws n idle) ew
+    by (begins w kind k q l ew en ea hc xi) = other w (begun kind k) l ew
+    by (goes w q l y ew ek ey nb tn ea ty) = other w y l ew
+    by (ends w q l ew en nb td ty) = other w idle l ew
+
 pub past-kept : PastKept
 past-kept r zero n =
     let p = ready (r .first) (r .fresh) in
     let f = r .fresh in
-    fresh-past (f .limits) (f .nodes) (f .buckets) (kept (r .first) f) (prepare-fresh (f .limits) (f .header) (f .nodes) (f .buckets) (p .going))
-    (r .first .header) (r .first .nodes) (r .first .buckets) (p .header) (p .nodes) (p .buckets) n
+    let q = fresh-past (f .limits) (f .nodes) (f .buckets) (kept (r .first) f) (prepare-fresh (f .limits) (f .header) (f .nodes) (f .buckets) (p .going))
+    (r .first .header) (r .first .nodes) (r .first .buckets) (p .header) (p .nodes) (p .buckets) n in
+    let e : r .first .header .w ≡ f .limits .w = ap (λ (h : Header). h .w) (p .header) in
+    (q .0, q .1, λ b. past-records (r .first) f n (omega arith))
 past-kept r (suc i) n =
     let s = made-at r i (good r i) .sizes in
     let c = call-past (state r i) (r .call i) n in
-    let p = past-kept r i n in
-    (λ b. let b′ : nodesOf (state r i .header) * 3 ≤ n = omega arith in c .0 b′ ∙ p .0 b′, λ b. let b′ : state r i .header .m ≤ n = omega arith in c .1 b′ ∙ p .1 b′)
+    let p = past-kept r i n in (
+      λ b. let b′ : nodesOf (state r i .header) * 3 ≤ n = omega arith in c .0 b′ ∙ p .0 b′,
+      λ b. let b′ : state r i .header .m ≤ n = omega arith in c .1 b′ ∙ p .1 b′,
+      λ b. let b′ : state r i .header .w ≤ n = omega arith in call-record r i n b′ ∙ p .2 b′,
+    )

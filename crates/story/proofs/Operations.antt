@@ -1,49 +1,47 @@
 -- The places of insert and delete: a swap that finds what it expects finds both nodes on the chain, so it takes effect there.
 -- Assumes nothing.
-use mathlib.Core.Path.{_≡_, refl, sym, ap, subst, _∙_}
-use mathlib.Core.Logic.{_≢_, _⊎_, inl, inr, ⊎-elim}
+use mathlib.Core.Path.{_≡_, refl, sym, subst, _∙_}
+use mathlib.Core.Logic.{_≢_, _⊎_, inl, inr}
 use mathlib.Core.Bool.{Bool, true, false, true≢false, not, _&&_, _||_}
 use mathlib.Core.List.{List, List·Memᴰ as In}
-use Prim.Native.Nat.{ℕ, zero, suc, _+_, _*_, _/_, _%_, _^_, _≤_, _<_}
+use Prim.Native.Nat.{ℕ, suc, _+_, _*_, _/_, _%_, _^_, _≤_, _<_}
 use native.Mathlib.Omega.{arith}
 use native.Mathlib.Nat.{pow-suc, mod-eq-of-lt}
 use lib.Dec.{eqb, ltb, leb}
 use lib.Pow.{pow-mono}
-use borrow.Author.Tests.{eqb-true, eqb-false, eq-eqb, ne-eqb, le-ltb, ltb-true, leb-true, leb-false}
+use borrow.Author.Tests.{eq-eqb, ne-eqb, le-ltb, ltb-true, leb-true, leb-false}
 use Rattle.choice.specs.Choice.{pick}
 use Rattle.choice.proofs.Auto.{pick-true, pick-false}
 use Rattle.choice.proofs.Cases.{by-bool, by-eq}
 use Rattle.split.specs.Split.{regular, dummy}
-use Rattle.words.specs.Words.{STANDING, SPLIT-KEY, LINK, TAKEN, put, linkTo, isTo}
+use Rattle.words.specs.Words.{LINK, put, linkTo, isTo}
 use Rattle.words.proofs.Laws.{isTo-true}
 use Rattle.scans.specs.Scans.{lowest}
 use Rattle.scans.proofs.Laws.{lowest-free}
-use Rattle.names.specs.Names.{SZ, F1, B8, I8, I9, I10, D4B, D6, KEY, DUMMY, EXTRA, INSERT, FIND, DELETE}
-use Rattle.names.specs.declared.Answer.{Answer}
-use Rattle.names.specs.declared.Answer.the-variants.{Yes, No, NoKeyNode}
+use Rattle.names.specs.Names.{SZ, F1, B8, I8, I9, D4B, D6, KEY, DUMMY, EXTRA, INSERT, FIND}
+use Rattle.names.specs.declared.Answer.the-variants.{Yes, NoKeyNode}
 use Rattle.header.specs.declared.Header.{Header}
 use Rattle.header.specs.Header.{dummiesOf, nodesOf, doubles}
 use Rattle.header.specs.Rows.{PowerFromTo}
 use Rattle.record.specs.declared.Worker.{Worker}
 use Rattle.record.specs.Fields.{to, withErrand, withSize, withHeld}
 use Rattle.record.specs.Worker.{heldKey, heldDummy}
-use Rattle.moves.specs.declared.Effect.the-variants.{Nothing, Take, Aim, Place, Mark, Unlink, Count, Size}
-use Rattle.moves.specs.declared.Move.{Move}
-use Rattle.moves.specs.declared.Move.the-variants.{Damaged, Going, Ended}
+use Rattle.moves.specs.declared.Effect.the-variants.{Take, Aim, Place, Mark, Unlink}
+use Rattle.moves.specs.declared.Move.the-variants.{Going}
 use Rattle.moves.specs.Moves.{badLink, heldFor, placed, l2, i1, i8, i9, i10, d4a, d4b, d6, countUp, countDown}
-use Rattle.story.specs.Run.{key, link, standing, after, mark, Event, nothing, added, removed}
-use Rattle.story.specs.Story.{Same, Change}
-use Rattle.story.proofs.Chain.{putAfter, cutAfter, put-new, some-on}
+use Rattle.story.specs.Run.{key, link, standing, Event, nothing, added}
+use Rattle.story.specs.Story.{Same}
+use Rattle.story.proofs.Chain.{putAfter, cutAfter, put-new}
 use Rattle.story.proofs.Memory.{key-of-link}
 use Rattle.story.proofs.Facts as F
-use Rattle.story.proofs.Facts.{Glob, Prot, Held, Start, Root, Way, Sane, forKey, forDummy, forExtra, AimOf, inHand, sought, wantBy, Later}
+use Rattle.story.proofs.Facts.{Glob, Held, Root, Way, forKey, forDummy, forExtra, AimOf, Later}
 use Rattle.story.proofs.Stable as st
-use Rattle.story.proofs.Core.{Pasts, Core}
+use Rattle.story.proofs.Core.{Pasts}
 use Rattle.story.proofs.Effects.{live-on, prot-fits, prot-some, held-free}
-use Rattle.story.proofs.Registers.{regular-odd-all, dummy-is-even}
+use Rattle.story.proofs.Registers.{unmoved, regular-odd-all, dummy-is-even}
 use Rattle.story.proofs.Acts as A
 use Rattle.story.proofs.Ends.{recounted, resized}
-use Rattle.story.proofs.Steps.{took, ticked, Ctx, me, core, Told, Went, Good, Stands, looks, over, overs, past, upon, seen, sound-link, odd-sort}
+use Rattle.story.proofs.Steps.{told-neither, took, Ctx, me, core, Told, Went, Good, Stands, looks, over, overs, past, upon, seen, sound-link, odd-sort}
 use Rattle.story.proofs.Search.{want-key, want-dummy, no-hand, some-hand, no-sought, some-sought}
 
 -- twice a power of two below another is at most that
@@ -90,9 +88,6 @@ key-for : (x : Worker) → x .errand ≢ DUMMY → heldFor x ≡ x .held
 unfolding heldFor
 key-for x ne = by-eq (λ (v : ℕ). v ≡ x .held) (x .errand) DUMMY (λ e. absurd (ne e)) (λ _. refl)
 
-same-all : {m : List ℕ} (j : ℕ) → Same m m j
-same-all j = record { still = λ r. r; already = λ r. r }
-
 module _ {h : Header} {ws : List Worker} {Ps Qs : Pasts} {w : ℕ} {c m bs : List ℕ} (z : Ctx h ws Ps Qs w c m bs) where
   abbrev x : Worker
   x = me z
@@ -120,13 +115,7 @@ module _ {h : Header} {ws : List Worker} {Ps Qs : Pasts} {w : ℕ} {c m bs : Lis
   pub i1-good : Stands z F.i1 → F.At h w c m (Ps w) F.i1 x → Good z false (i1 (seen h x (lowest m (D + 1) N) 0))
   unfolding i1
   i1-good s b = by-eq (Good z false) n 0
-      (λ _. over z false NoKeyNode c m (core z) same-all (record {
-        yes = λ a k. let f : _≡_ {A = ℕ} 0 1 = cc in absurd (omega arith);
-        no-there = λ a k. let f : _≡_ {A = ℕ} 0 1 = cc in absurd (omega arith);
-        no-absent = λ a k. let f : _≡_ {A = ℕ} 0 1 = cc in absurd (omega arith);
-        done = λ a k. let f : _≡_ {A = ℕ} 0 1 = cc in absurd (omega arith);
-        undone = λ a. refl;
-      }))
+      (λ _. over z false NoKeyNode c m (core z) unmoved (told-neither (λ a. let f : _≡_ {A = ℕ} 0 1 = cc in omega arith) (λ a. let f : _≡_ {A = ℕ} 0 1 = cc in omega arith)))
       takes
     where
       n : ℕ
@@ -183,7 +172,7 @@ module _ {h : Header} {ws : List Worker} {Ps Qs : Pasts} {w : ℕ} {c m bs : Lis
           dum-has = s .dum-has;
           at = (b .0, b .1, below h (x .size) (h .count) t);
         };
-        change = same-all;
+        change = unmoved;
         kind = refl;
         same-key = refl;
         turned = refl;
@@ -194,7 +183,7 @@ module _ {h : Header} {ws : List Worker} {Ps Qs : Pasts} {w : ℕ} {c m bs : Lis
   unfolding i10
   i10-good s b = by-eq (Good z true) (h .size) (x .size)
       (λ _. overs z true Yes ((x .size + x .size) % 4294967296) (h .count) (resized (core z) _ (doubled (h .m) (x .size) (z .inv .limits .buckets .1) full (b .1) (b .2))) (did (λ k. omega (arith, b .0))))
-      (λ _. over z true Yes c m (core z) same-all (did (λ k. omega (arith, b .0))))
+      (λ _. over z true Yes c m (core z) unmoved (did (λ k. omega (arith, b .0))))
     where
       full : PowerFromTo 2 (h .m) (h .m)
       full = (z .inv .limits .buckets .0, omega arith, z .inv .limits .buckets .2)

@@ -1,17 +1,17 @@
 -- What a change of the nodes does to the registered keys: a key is told by the one node of the sorted chain that can have its split key.
 -- Assumes nothing.
-use mathlib.Core.Path.{_≡_, refl, sym, ap, _∙_}
-use mathlib.Core.Logic.{_≢_, _⊎_, inl, inr}
+use mathlib.Core.Path.{_≡_, sym, ap, _∙_}
+use mathlib.Core.Logic.{_≢_}
 use mathlib.Core.List.{List, List·Memᴰ as In}
-use Prim.Native.Nat.{ℕ, _+_, _*_, _/_, _%_, _≤_, _<_}
+use Prim.Native.Nat.{ℕ, _+_, _*_, _%_, _≤_, _<_}
 use native.Mathlib.Omega.{arith}
 use native.Mathlib.Decide.{ℕ-discrete}
 use Rattle.split.specs.Split.{reverse, regular, dummy}
 use Rattle.split.proofs.Laws.{regular-odd, regular-inj, dummy-even}
 use Rattle.names.specs.Names.{KEY-LIMIT}
-use Rattle.story.specs.Run.{key, link, standing, after, mark, On, Registered}
+use Rattle.story.specs.Run.{key, link, after, mark, On, Registered}
 use Rattle.story.specs.Story.{Same, Added, Removed}
-use Rattle.story.proofs.Chain.{Walk, putAfter, cutAfter, put-new, put-old, put-only, same-key, between, on-in, in-on}
+use Rattle.story.proofs.Chain.{putAfter, put-new, put-old, put-only, same-key, between, on-in, in-on}
 use Rattle.story.proofs.Facts.{Glob}
 
 -- a key's split key is that of its lowest 31 bits
@@ -37,6 +37,10 @@ module _ (D N : ℕ) (c m : List ℕ) (g : Glob D N c m) where
   -- between two neighbours of the chain, or after its last node, there is no key
   pub gap : (p k : ℕ) → In p c → key m p < regular k → (after m p ≢ 0 → regular k < key m (after m p)) → Registered m k → ⊥
   gap p k i lo hi r = between m p 0 1 (regular k) i (on-it r) (g .walk) lo hi (r .has)
+
+-- the same words
+pub unmoved : {m : List ℕ} (j : ℕ) → Same m m j
+unmoved j = record { still = λ r. r; already = λ r. r }
 
 -- a key for which the unmarked nodes of the one chain are those of the other
 pub same-for : (D N : ℕ) (c m c′ m′ : List ℕ) (k : ℕ) → Glob D N c m → Glob D N c′ m′

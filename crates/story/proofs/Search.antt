@@ -1,45 +1,43 @@
 -- The places of a search: what is read of a protected unmarked node is read of the chain, so its neighbours bound the wanted split key.
 -- Assumes nothing.
-use mathlib.Core.Path.{_≡_, refl, sym, ap, _∙_}
-use mathlib.Core.Logic.{_≢_, _⊎_, inl, inr, ⊎-elim}
+use mathlib.Core.Path.{_≡_, refl, sym, _∙_}
+use mathlib.Core.Logic.{_≢_, _⊎_, inl, inr}
 use mathlib.Core.Bool.{Bool, true, false, true≢false, _||_}
 use mathlib.Core.List.{List, List·Memᴰ as In}
-use Prim.Native.Nat.{ℕ, zero, suc, _+_, _*_, _/_, _%_, _^_, _≤_, _<_}
+use Prim.Native.Nat.{ℕ, _*_, _≤_}
 use native.Mathlib.Omega.{arith}
-use native.Mathlib.Decide.{ℕ-discrete}
-use lib.Dec.{eqb, ltb}
-use borrow.Author.Tests.{eqb-true, eqb-false, ne-eqb, eq-eqb, le-ltb}
+use lib.Dec.{eqb}
+use borrow.Author.Tests.{eqb-true, eqb-false, ne-eqb, eq-eqb}
 use Rattle.choice.specs.Choice.{pick}
 use Rattle.choice.proofs.Cases.{by-bool, by-eq, by-lt}
 use Rattle.split.specs.Split.{regular, dummy}
 use Rattle.words.specs.Words.{STANDING, LINK, put, linkTo, isTo}
-use Rattle.words.proofs.Laws.{isTo-true, isTo-false}
-use Rattle.sets.specs.Sets.{bit}
-use Rattle.names.specs.Names.{F1, F2, F3, F4, L2, B8, D4A, D6, KEY, DUMMY, EXTRA, INSERT, FIND, DELETE}
+use Rattle.words.proofs.Laws.{isTo-true}
+use Rattle.names.specs.Names.{F1, F2, F3, F4, L2, B8, D4A, D6, KEY, DUMMY, EXTRA, INSERT, FIND}
 use Rattle.names.specs.declared.Answer.{Answer}
 use Rattle.names.specs.declared.Answer.the-variants.{Yes, No}
 use Rattle.header.specs.declared.Header.{Header}
 use Rattle.header.specs.Header.{dummiesOf, nodesOf}
 use Rattle.record.specs.declared.Worker.{Worker}
-use Rattle.record.specs.Fields.{to, withPrev, withCur, withNext, withMarked, withDummy}
+use Rattle.record.specs.Fields.{to, withPrev, withCur, withDummy}
 use Rattle.record.specs.Worker.{heldKey, heldDummy}
 use Rattle.moves.specs.declared.Effect.{Effect}
 use Rattle.moves.specs.declared.Effect.the-variants.{Nothing, Free, Unlink}
 use Rattle.moves.specs.declared.Move.{Move}
 use Rattle.moves.specs.declared.Move.the-variants.{Damaged, Going, Ended}
-use Rattle.moves.specs.Moves.{wantOf, notFound, foundKey, found, comes, f1, f2, judged, f3, f4}
-use Rattle.story.specs.Run.{key, link, standing, after, mark, Registered, nothing}
+use Rattle.moves.specs.Moves.{notFound, foundKey, found, comes, f1, f2, judged, f3, f4}
+use Rattle.story.specs.Run.{key, link, after, mark, nothing}
 use Rattle.story.specs.Story.{Same}
 use Rattle.story.proofs.Memory.{key-of-standing}
 use Rattle.story.proofs.Chain.{cutAfter, succ-in}
 use Rattle.story.proofs.Facts as F
-use Rattle.story.proofs.Facts.{Prot, Held, Own, Glob, Aim, forKey, forDummy, forExtra, AimOf, Start, Prev, Beyond, Read, Root, Sane, Searches, Passes, wantBy, inHand, sought, Later}
+use Rattle.story.proofs.Facts.{Prot, Held, Glob, forKey, forDummy, forExtra, AimOf, Start, Beyond, Root, Sane, Searches, Passes, wantBy, inHand, sought, Later}
 use Rattle.story.proofs.Stable as st
-use Rattle.story.proofs.Core.{Pasts, Core, Inv}
+use Rattle.story.proofs.Core.{Pasts, Core}
 use Rattle.story.proofs.Effects.{same, live-on, prot-fits, prot-some, next-fits}
-use Rattle.story.proofs.Registers.{gap, on, dummy-is-even, regular-odd-all}
-use Rattle.story.proofs.Acts.{free-dummy, free-later, free-same, unlink-later, unlink-prev, unlink-same, unlinks}
-use Rattle.story.proofs.Steps.{took, ticked, Ctx, me, core, Next, Went, Present, Absent, Stands, Told, Finished, Good, over, past, upon, seen, sound-link, want-is, even-sort, odd-sort}
+use Rattle.story.proofs.Registers.{unmoved, gap, on, dummy-is-even}
+use Rattle.story.proofs.Acts.{free-dummy, free-same, unlink-later, unlink-prev, unlink-same, unlinks}
+use Rattle.story.proofs.Steps.{took, ticked, Ctx, me, core, Went, Present, Absent, Stands, looks, Told, Finished, Good, over, past, upon, seen, sound-link, want-is, even-sort}
 
 -- the wanted split key, by errand
 pub want-key : (e a k : ℕ) → e ≢ DUMMY → F.want e a k ≡ regular k
@@ -102,7 +100,7 @@ module _ {h : Header} {ws : List Worker} {Ps Qs : Pasts} {w : ℕ} {c m bs : Lis
     finished : (a : Answer) → Finished z tk a h m′ bs nothing → Good z tk (Ended a e)
 
   still : Onward Nothing c m
-  still = record { rest = core z; key-is = l .key-has; dum-is = l .dum-has; unchanged = λ j. record { still = λ r. r; already = λ r. r }; went = λ y q. q; finished = λ a q. q }
+  still = record { rest = core z; key-is = l .key-has; dum-is = l .dum-has; unchanged = unmoved; went = λ y q. q; finished = λ a q. q }
 
   -- the search's end without the wanted split key
   module _ (e : Effect) (c′ m′ : List ℕ) (o : Onward e c′ m′) (prev cur : ℕ) (pf : prev ≤ N) (cf : cur ≤ N)
@@ -186,7 +184,7 @@ module _ {h : Header} {ws : List Worker} {Ps Qs : Pasts} {w : ℕ} {c m bs : Lis
       dum-has = l .dum-has;
       at = b;
     };
-    change = λ j. record { still = λ r. r; already = λ r. r };
+    change = unmoved;
     kind = refl;
     same-key = refl;
     turned = refl;
@@ -232,7 +230,7 @@ module _ {h : Header} {ws : List Worker} {Ps Qs : Pasts} {w : ℕ} {c m bs : Lis
             },
           );
         };
-        change = λ j. record { still = λ r. r; already = λ r. r };
+        change = unmoved;
         kind = refl;
         same-key = refl;
         turned = refl;
@@ -282,53 +280,18 @@ module _ {h : Header} {ws : List Worker} {Ps Qs : Pasts} {w : ℕ} {c m bs : Lis
             (pick (eqb (x .dummy) 0) Damaged (Going (to B8 (withDummy (x .cur) x)) (Free (x .dummy))))))
         by-aim (forKey q hs) = past G _ _ (ne-eqb (x .errand) EXTRA (λ r. omega arith)) (upon G _ _ (eq-eqb (x .errand) KEY q)
             (by-eq G (x .kind) INSERT
-            (λ k. past G _ _ (ne-eqb (x .held) 0 (hs k)) (over z tk No c m (core z) (λ j. record { still = λ r. r; already = λ r. r })
+            (λ k. past G _ _ (ne-eqb (x .held) 0 (hs k)) (over z tk No c m (core z) unmoved
             (told No q (λ u. let f : _≡_ {A = ℕ} 0 1 = cc in absurd (omega arith)) (λ u. k))))
             (λ nk. by-eq G (x .kind) FIND
-            (λ k. over z tk Yes c m (core z) (λ j. record { still = λ r. r; already = λ r. r }) (told Yes q (λ u. k) (λ u. let f : _≡_ {A = ℕ} 0 1 = cc in absurd (omega arith))))
-            (λ nf. record {
-              chain = c;
-              next = record {
-                k = heldKey x;
-                d = heldDummy x;
-                rest = core z;
-                spot = F.d4a;
-                place = refl;
-                sane = l .sane;
-                key-same = sym (hand ∙ no-hand x nk);
-                dum-same = sym (dum ∙ no-sought x (λ r. omega arith));
-                key-has = l .key-has;
-                dum-has = l .dum-has;
-                at = (omega (arith, l .sane .0, l .sane .1), q, low, b .0 .1 .safe, b .1, has ∙ want-key (x .errand) (x .making) (x .key) (λ r. omega arith));
-              };
-              change = λ j. record { still = λ r. r; already = λ r. r };
-              kind = refl;
-              same-key = refl;
-              turned = sym (ne-eqb (x .errand) EXTRA (λ r. omega arith));
-            }))))
+            (λ k. over z tk Yes c m (core z) unmoved (told Yes q (λ u. k) (λ u. let f : _≡_ {A = ℕ} 0 1 = cc in absurd (omega arith))))
+            (λ nf. looks z tk p₀ l (dum ∙ no-sought x (λ r. omega arith)) F.d4a (to D4A x) refl (l .sane) (sym (hand ∙ no-hand x nk)) refl refl refl
+            (omega (arith, l .sane .0, l .sane .1), q, low, b .0 .1 .safe, b .1, has ∙ want-key (x .errand) (x .making) (x .key) (λ r. omega arith)) (sym (ne-eqb (x .errand) EXTRA (λ r. omega arith)))
+            ))))
           where
             low : Start D c m (x .start) (regular (x .key))
             low = rw (want-key (x .errand) (x .making) (x .key) (λ r. omega arith)) at (b .0 .0 .1)
-        by-aim (forExtra q k) = upon G _ _ (eq-eqb (x .errand) EXTRA q) (record {
-          chain = c;
-          next = record {
-            k = heldKey x;
-            d = heldDummy x;
-            rest = core z;
-            spot = F.d6;
-            place = refl;
-            sane = l .sane;
-            key-same = sym (hand ∙ no-hand x (λ r. omega arith));
-            dum-same = sym (dum ∙ no-sought x (λ r. omega arith));
-            key-has = l .key-has;
-            dum-has = l .dum-has;
-            at = k;
-          };
-          change = λ j. record { still = λ r. r; already = λ r. r };
-          kind = refl;
-          same-key = refl;
-          turned = sym (eq-eqb (x .errand) EXTRA q);
-        })
+        by-aim (forExtra q k) = upon G _ _ (eq-eqb (x .errand) EXTRA q)
+            (looks z tk p₀ l (dum ∙ no-sought x (λ r. omega arith)) F.d6 (to D6 x) refl (l .sane) (sym (hand ∙ no-hand x (λ r. omega arith))) refl refl refl k (sym (eq-eqb (x .errand) EXTRA q)))
         by-aim (forDummy q hs way dn) = past G _ _ (ne-eqb (x .errand) EXTRA (λ r. omega arith)) (past G _ _ (ne-eqb (x .errand) KEY (λ r. omega arith))
             (past G _ _ (ne-eqb (x .dummy) 0 dn) (record {
               chain = c;

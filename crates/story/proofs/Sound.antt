@@ -1,27 +1,27 @@
 -- No row of 12 or 11 holds of a register that keeps the invariant: each asks for something that a fact of the header or of the record denies.
 -- Assumes nothing.
-use mathlib.Core.Path.{_≡_, refl, sym, ap, _∙_}
+use mathlib.Core.Path.{_≡_, refl, sym, _∙_}
 use mathlib.Core.Logic.{_≢_, _⊎_, inl, inr, ⊎-elim}
-use mathlib.Core.Bool.{Bool, true, false, true≢false, not, _&&_, _||_}
+use mathlib.Core.Bool.{Bool, true, false, _||_}
 use mathlib.Core.List.{List}
-use Prim.Native.Nat.{ℕ, _+_, _*_, _^_, _≤_, _<_}
+use Prim.Native.Nat.{ℕ, _*_, _≤_, _<_}
 use native.Mathlib.Omega.{arith}
-use lib.Dec.{eqb, ltb, leb}
+use lib.Dec.{ltb}
 use lib.ListN.{length}
 use lib.Pow.{pow-mono}
-use borrow.Author.Tests.{ne-eqb, eq-eqb, le-ltb, lt-leb}
+use borrow.Author.Tests.{ne-eqb, le-ltb, lt-leb}
 use Rattle.choice.proofs.Exactly.{Tells}
 use Rattle.sets.specs.Sets.{bit, isIn}
-use Rattle.sets.proofs.Laws.{bit-far, isIn-true}
+use Rattle.sets.proofs.Laws.{bit-far}
 use Rattle.names.specs.Names.{IDLE, KEY-LIMIT, INSERT, DELETE, EXTRA, KEY, DUMMY, D6}
 use Rattle.header.specs.declared.Header.{Header}
-use Rattle.header.specs.Header.{nodesOf, dummiesOf, headerDamaged, powerUpTo}
-use Rattle.header.specs.Rows.{Limits, PowerFromTo, HeaderDamaged, BusyBeyond}
+use Rattle.header.specs.Header.{nodesOf, headerDamaged}
+use Rattle.header.specs.Rows.{BusyBeyond}
 use Rattle.header.proofs.Rows.{header-damaged, power-up-to}
 use Rattle.record.specs.declared.Worker.{Worker}
-use Rattle.record.specs.Worker.{idle, unknownName, keyAbove, bucketBeyond, nodeBeyond, bitDisagrees, idleNotZero, kindMisfit, errandMisfit, makingAstray, sizeMisfit, workerDamaged}
+use Rattle.record.specs.Worker.{idle, unknownName, bucketBeyond, nodeBeyond, bitDisagrees, idleNotZero, kindMisfit, errandMisfit, makingAstray, sizeMisfit, workerDamaged}
 use Rattle.register.specs.Calls.{isShort}
-use Rattle.story.proofs.Facts.{Way, Sane, Spot, i1, sz, tb, b2, b4, f1, f2, f3, f4, l2, b8, i8, i9, i10, d4a, d4b, d6, number, forKey, forDummy, forExtra, AimOf, At, Busy, Fact}
+use Rattle.story.proofs.Facts.{Sane, Spot, i1, sz, tb, b2, b4, f1, f2, f3, f4, l2, b8, i8, i9, i10, d4a, d4b, d6, number, forKey, forDummy, forExtra, AimOf, At, Busy, Fact}
 use Rattle.story.proofs.Core.{Pasts, Agrees, Core, not-idle}
 
 -- a test whose claim fails is false

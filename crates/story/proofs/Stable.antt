@@ -1,18 +1,16 @@
 -- What a worker knows outlives another worker's step: each part of it is shown stable once, and a place is made of parts.
 -- Assumes nothing.
-use mathlib.Core.Path.{_≡_, refl, sym, _∙_}
-use mathlib.Core.Logic.{_≢_, _⊎_, inl, inr, ⊎-elim}
-use mathlib.Core.Bool.{Bool, true, false}
-use mathlib.Core.List.{List, List·Memᴰ as In}
-use Prim.Native.Nat.{ℕ, _+_, _*_, _%_, _≤_, _<_}
+use mathlib.Core.Path.{_≡_, _∙_}
+use mathlib.Core.Logic.{_≢_, inl}
+use mathlib.Core.Bool.{Bool}
+use mathlib.Core.List.{List}
+use Prim.Native.Nat.{ℕ, _+_, _*_, _≤_}
 use native.Mathlib.Omega.{arith}
-use Rattle.split.specs.Split.{regular, dummy}
 use Rattle.header.specs.declared.Header.{Header}
 use Rattle.header.specs.Header.{dummiesOf, nodesOf}
 use Rattle.record.specs.declared.Worker.{Worker}
-use Rattle.record.specs.Worker.{idle}
-use Rattle.story.specs.Run.{key, link, standing, mark}
-use Rattle.story.proofs.Facts.{Waits, Prot, Held, Own, Root, Start, Prev, Beyond, Read, Spot, i1, sz, tb, b2, b4, f1, f2, f3, f4, l2, b8, i8, i9, i10, d4a, d4b, d6, number, AimOf, wantBy, Searches, Passes, At, keyOf, dumOf, Busy, Fact, Later}
+use Rattle.story.specs.Run.{key, link}
+use Rattle.story.proofs.Facts.{Prot, Own, Root, Start, Prev, Beyond, Read, Spot, i1, sz, tb, b2, b4, f1, f2, f3, f4, l2, b8, i8, i9, i10, d4a, d4b, d6, Passes, At, keyOf, dumOf, Busy, Later}
 
 module _ {D N v g : ℕ} {c m c′ m′ : List ℕ} (l : Later D N v g c m c′ m′) where
   pub start : {n most : ℕ} → Start D c m n most → Start D c′ m′ n most

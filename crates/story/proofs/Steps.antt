@@ -1,41 +1,38 @@
 -- What is to be shown of a step's decision: the invariant after it, the change of the registered keys that it names, and what its answer rests on.
 -- Assumes nothing.
-use mathlib.Core.Path.{_≡_, refl, sym, ap, _∙_}
-use mathlib.Core.Logic.{_≢_, _⊎_, inl, inr, ⊎-elim}
+use mathlib.Core.Path.{_≡_, refl, sym, _∙_}
+use mathlib.Core.Logic.{_≢_, _⊎_, inr}
 use mathlib.Core.Bool.{Bool, true, false, _||_, _&&_}
 use mathlib.Core.List.{List, List·Memᴰ as In}
-use Prim.Native.Nat.{ℕ, zero, suc, _+_, _*_, _/_, _%_, _^_, _≤_, _<_}
+use Prim.Native.Nat.{ℕ, _+_, _*_, _%_, _≤_, _<_}
 use native.Mathlib.Omega.{arith}
-use lib.Dec.{eqb, ltb, leb}
-use lib.ListN.{length, set}
+use lib.Dec.{eqb, leb}
+use lib.ListN.{set}
 use borrow.Author.Tests.{ne-eqb, le-ltb, leb-true, leb-false}
 use Rattle.choice.specs.Choice.{pick}
 use Rattle.choice.proofs.Auto.{pick-false, pick-true}
 use Rattle.split.specs.Split.{regular, dummy}
-use Rattle.words.specs.Words.{STANDING, put}
 use Rattle.sets.specs.Sets.{bit, dropped}
-use Rattle.scans.specs.Scans.{sweep}
-use Rattle.names.specs.Names.{F1, L2, I8, I10, D4B, D6, EXTRA, DUMMY, INSERT, FIND, DELETE}
+use Rattle.names.specs.Names.{F1, L2, I8, I10, D4B, D6, EXTRA, INSERT, FIND, DELETE}
 use Rattle.names.specs.declared.Answer.{Answer}
 use Rattle.names.specs.declared.Answer.the-variants.{Yes, No}
 use Rattle.header.specs.declared.Header.{Header}
-use Rattle.header.specs.Header.{dummiesOf, nodesOf, busied}
+use Rattle.header.specs.Header.{nodesOf, busied}
 use Rattle.record.specs.declared.Worker.{Worker}
-use Rattle.record.specs.Fields.{withSteps, to}
+use Rattle.record.specs.Fields.{withSteps}
 use Rattle.record.specs.Worker.{idle, within, heldKey, heldDummy}
 use Rattle.moves.specs.declared.Seen.{Seen}
-use Rattle.moves.specs.declared.Effect.{Effect}
-use Rattle.moves.specs.declared.Effect.the-variants.{Nothing, Unlink}
+use Rattle.moves.specs.declared.Effect.the-variants.{Nothing}
 use Rattle.moves.specs.declared.Move.{Move}
 use Rattle.moves.specs.declared.Move.the-variants.{Damaged, Going, Ended}
 use Rattle.moves.specs.Moves.{badLink, wantOf, on}
 use Rattle.writes.specs.Writes.{nodesAfter, bucketsAfter, headerAfter}
-use Rattle.register.specs.declared.Turn.{Turn}
 use Rattle.register.specs.Step.{tick, closed}
 use Rattle.crew.specs.Crew.{turn}
-use Rattle.story.specs.Run.{key, link, standing, after, mark, Registered, Event, nothing, added, removed, written}
+use Rattle.story.specs.Run.{key, link, after, Registered, Event, nothing, added, removed, written}
 use Rattle.story.specs.Story.{Same, Change}
-use Rattle.story.proofs.Facts.{Held, Own, Glob, Spot, i1, sz, tb, b2, b4, f1, f2, f3, f4, l2, b8, i8, i9, i10, d4a, d4b, d6, number, At, Sane, wantBy, inHand, sought, keyOf, dumOf, Busy, Later}
+use Rattle.story.proofs.Registers.{unmoved}
+use Rattle.story.proofs.Facts.{Glob, Spot, i1, sz, tb, b2, b4, f1, f2, f3, f4, l2, b8, i8, i9, i10, d4a, d4b, d6, number, At, Sane, wantBy, keyOf, dumOf, Busy}
 use Rattle.story.proofs.Stable.{Grows}
 use Rattle.story.proofs.Hands.{key-is, dummy-is}
 use Rattle.story.proofs.Core.{Pasts, recordOf, not-idle, Core, Inv, aside, back}
@@ -107,6 +104,10 @@ pub record ToldBy (m : List ℕ) (P : ℕ → ℕ → ℕ → Type 0) (x : Worke
   pub no-absent : a ≡ No → x .kind ≢ INSERT → Absently m P (x .key)
   pub done : a ≡ Yes → x .kind ≢ FIND → tk ≡ true
   pub undone : a ≢ Yes → tk ≡ false
+
+-- neither yes nor no, of an operation without effect
+pub told-neither : {m : List ℕ} {P : ℕ → ℕ → ℕ → Type 0} {x : Worker} {a : Answer} → a ≢ Yes → a ≢ No → ToldBy m P x false a
+told-neither ny nn = record { yes = λ a k. absurd (ny a); no-there = λ a k. absurd (nn a); no-absent = λ a k. absurd (nn a); done = λ a k. absurd (ny a); undone = λ a. refl }
 
 -- a step of worker w: the invariant before it, and what is seen of the past afterwards
 pub record Ctx (h : Header) (ws : List Worker) (Ps Qs : Pasts) (w : ℕ) (c m bs : List ℕ) : Type 0 where
@@ -194,7 +195,7 @@ module _ {h : Header} {ws : List Worker} {Ps Qs : Pasts} {w : ℕ} {c m bs : Lis
       dum-has = λ n. absurd (n d0);
       at = a;
     };
-    change = λ j. record { still = λ r. r; already = λ r. r };
+    change = unmoved;
     kind = kd;
     same-key = ky;
     turned = t;

@@ -2,27 +2,26 @@
 -- Assumes nothing.
 use mathlib.Core.Path.{_≡_, refl, sym, ap, _∙_}
 use mathlib.Core.Logic.{_≢_, _⊎_, inl, inr, ⊎-elim}
-use mathlib.Core.Bool.{Bool, true, false, _||_, _&&_}
-use Prim.Native.Nat.{ℕ, _+_, _%_, _≤_}
+use mathlib.Core.Bool.{true, false, _||_, _&&_}
+use Prim.Native.Nat.{ℕ, _+_}
 use native.Mathlib.Omega.{arith}
 use lib.Dec.{eqb}
-use borrow.Author.Tests.{ne-eqb, eq-eqb, eqb-true, eqb-false}
 use Rattle.choice.specs.Choice.{pick}
-use Rattle.choice.proofs.Cases.{by-bool, by-eq, both}
-use Rattle.names.specs.Names.{I1, SZ, TB, B2, B4, F1, F2, F3, F4, L2, B8, I8, I9, I10, D4A, D4B, D6, KEY, DUMMY, EXTRA, INSERT}
+use Rattle.choice.proofs.Cases.{by-eq, both}
+use Rattle.names.specs.Names.{F1, L2, B8, I8, I9, D4B, D6, KEY, DUMMY, EXTRA}
 use Rattle.header.specs.declared.Header.{Header}
 use Rattle.record.specs.declared.Worker.{Worker}
 use Rattle.names.specs.declared.Answer.{Answer}
-use Rattle.record.specs.Fields.{to, withErrand, withPrev, withCur, withHeld}
+use Rattle.record.specs.Fields.{to, withPrev, withCur, withHeld}
 use Rattle.record.specs.Worker.{idle, within}
 use Rattle.moves.specs.declared.Seen.{Seen}
 use Rattle.moves.specs.declared.Effect.{Effect}
-use Rattle.moves.specs.declared.Effect.the-variants.{Nothing, Free, Aim, Place, Mark, Unlink, Store, Count, Size, Take}
+use Rattle.moves.specs.declared.Effect.the-variants.{Nothing}
 use Rattle.moves.specs.declared.Move.{Move}
 use Rattle.moves.specs.declared.Move.the-variants.{Damaged, Going, Ended}
 use Rattle.moves.specs.Moves.{notFound, foundKey, found, comes, f1, f2, judged, f3, f4, placed, l2, tb, b2, b4, b8, i1, sz, i8, i9, i10, d4a, d4b, d6, decidedAt, countUp, countDown}
 use Rattle.writes.specs.Writes.{headerAfter}
-use Rattle.story.specs.Run.{Event, nothing, added, removed, written}
+use Rattle.story.specs.Run.{Event, nothing, written}
 use Rattle.story.specs.Story.{uncountedIn, uncountedOut, adds, removes}
 use Rattle.story.proofs.Steps.{seen}
 use Rattle.story.proofs.Facts as F

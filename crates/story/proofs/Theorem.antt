@@ -1,34 +1,26 @@
 -- The invariant holds at every state of every run, by induction on the calls; what is said of a run is read off it.
 -- Assumes nothing.
-use mathlib.Core.Path.{_≡_, refl, sym, ap, _∙_}
-use mathlib.Core.Logic.{_≢_, _⊎_, inl, inr, ⊎-elim}
+use mathlib.Core.Path.{_≡_, refl, sym, ap}
+use mathlib.Core.Logic.{_≢_, _⊎_, inl, inr}
 use mathlib.Core.Bool.{Bool, true, false, _&&_}
 use mathlib.Core.List.{List, [], _∷_, List·Memᴰ as In, List·Memᴰ·head as here}
-use Prim.Native.Nat.{ℕ, zero, suc, _+_, _*_, _^_, _≤_, _<_}
+use Prim.Native.Nat.{ℕ, zero, suc, _+_, _*_, _≤_, _<_}
 use native.Mathlib.Omega.{arith}
 use native.Mathlib.Decide.{ℕ-discrete}
-use lib.Dec.{eqb, ltb}
-use lib.ListN.{length, getD}
-use borrow.Author.Tests.{ne-eqb, eqb-true, le-leb}
+use lib.Dec.{eqb}
+use borrow.Author.Tests.{ne-eqb}
 use Rattle.choice.specs.Choice.{pick}
-use Rattle.choice.proofs.Cases.{by-bool, by-eq, both}
-use Rattle.words.specs.Words.{TAKEN, LARGEST-SET}
-use Rattle.sets.specs.Sets.{bit}
-use Rattle.sets.proofs.Laws.{bit-some}
+use Rattle.choice.proofs.Cases.{by-eq, both}
 use Rattle.names.specs.Names.{IDLE, KEY-LIMIT, numberOf}
 use Rattle.names.specs.declared.Answer.{Answer}
 use Rattle.names.specs.declared.Answer.the-variants.{Going, Yes, No, Limit, Short, Damaged, NoWorker, KeyAbove, IsBusy, IsIdle, NoKind, NoKeyNode, NoDummy}
-use Rattle.header.specs.Header.{nodesOf, dummiesOf, busyBeyond}
-use Rattle.header.proofs.Rows.{busy-beyond}
 use Rattle.record.specs.declared.Worker.{Worker}
-use Rattle.record.specs.Worker.{heldKey, heldDummy}
-use Rattle.story.specs.Run.{State, workerOf, Call, start, step, left, answer, Run, state, key, link, standing, On, Registered, Event, nothing, added, removed, event}
+use Rattle.story.specs.Run.{State, workerOf, Call, start, step, left, answer, Run, state, key, link, On, Registered, Event, nothing, added, removed, event}
 use Rattle.story.specs.Story
-use Rattle.story.specs.Story.{startsOf, began, NeverDamaged, Free, Holds, HeldByOne, Waiting, OneOf, OnePlace, Change, StepLaw, isAdded, isRemoved, inserted, deleted, Ledger, BitsAgree}
+use Rattle.story.specs.Story.{startsOf, began, NeverDamaged, Change, StepLaw, isAdded, isRemoved, inserted, deleted, Ledger, BitsAgree}
 use Rattle.story.proofs.Chain.{on-in, in-on}
-use Rattle.story.proofs.Facts.{Held, Fact}
 use Rattle.story.proofs.Stable.{Grows}
-use Rattle.story.proofs.Core.{Pasts, recordOf, fact-key, fact-dummy, Inv, not-idle}
+use Rattle.story.proofs.Core.{Pasts}
 use Rattle.story.proofs.Registers.{regular-odd-all}
 use Rattle.story.proofs.Calls.{InvOf, Made, step-made, start-made}
 use Rattle.story.proofs.Fresh.{ready, fresh-inv}

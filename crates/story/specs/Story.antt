@@ -1,7 +1,7 @@
 -- What holds over every run: the statements, each under the sentence that it stands for.
 use Prim.Native.Nat.{ℕ, zero, suc, _+_, _*_, _≤_, _<_}
 use mathlib.Core.Bool.{Bool, false, _&&_, _||_}
-use mathlib.Core.List.{List}
+use mathlib.Core.List.{List, [], _∷_}
 use mathlib.Core.Logic.{_⊎_, _≢_}
 use mathlib.Core.Path.{_≡_}
 use lib.Dec.{eqb}
@@ -11,9 +11,10 @@ use Rattle.words.specs.Words.{LARGEST-SET}
 use Rattle.sets.specs.Sets.{bit}
 use Rattle.names.specs.Names.{IDLE, F1, L2, I8, I9, D4B, D6, EXTRA, INSERT, FIND, DELETE, KEY-LIMIT, numberOf}
 use Rattle.names.specs.declared.Answer.{Answer}
-use Rattle.names.specs.declared.Answer.the-variants.{Yes, No, Short, Damaged, NoKeyNode, NoDummy}
+use Rattle.names.specs.declared.Answer.the-variants.{Going, Yes, No, Short, Damaged, NoKeyNode, NoDummy}
 use Rattle.header.specs.Header.{nodesOf}
 use Rattle.record.specs.declared.Worker.{Worker}
+use Rattle.record.specs.Rows.{IsOneOf}
 use Rattle.record.specs.Worker.{idle, within, heldKey, heldDummy}
 use Rattle.story.specs.Run.{State, workerOf, Call, start, step, answer, Run, state, standing, On, Registered, Event, nothing, added, removed, event}
 
@@ -27,9 +28,27 @@ abbrev pub began : Run → ℕ → ℕ → ℕ
 began r w zero = 0
 began r w (suc i) = pick (startsOf w (r .call i) (answer (state r i) (r .call i))) i (began r w i)
 
+-- the operation of kind and key that worker w is in at call e
+pub record Operation (r : Run) (w e kind k : ℕ) : Type 0 where
+  pub before : began r w e < e
+  pub started : r .call (began r w e) ≡ start w kind k
+  pub going : answer (state r (began r w e)) (r .call (began r w e)) ≡ Going
+
+-- an answer that ends an operation: 1, 2, 18, 19
+abbrev pub Ends : Answer → Type 0
+Ends a = (a ≡ Yes) ⊎ (a ≡ No) ⊎ (a ≡ NoKeyNode) ⊎ (a ≡ NoDummy)
+
+-- "every ended answer is that of an operation"
+abbrev pub OfAnOperation : Type 0
+OfAnOperation = (r : Run) (e w : ℕ) → r .call e ≡ step w → Ends (answer (state r e) (r .call e)) → (kind : ℕ) × (k : ℕ) × Operation r w e kind k
+
 -- ---- "no call of a run answers 12 or 11", whatever worker, kind and key it is handed
 abbrev pub NeverDamaged : Type 0
 NeverDamaged = (r : Run) (i : ℕ) (c : Call) → (answer (state r i) c ≢ Damaged) × (answer (state r i) c ≢ Short)
+
+-- every answer has a number of the paper's table
+abbrev pub AnswersAreFromThePaper : Type 0
+AnswersAreFromThePaper = (r : Run) (i : ℕ) (c : Call) → IsOneOf (numberOf (answer (state r i) c)) (0 ∷ 1 ∷ 2 ∷ 10 ∷ 11 ∷ 12 ∷ 13 ∷ 14 ∷ 15 ∷ 16 ∷ 17 ∷ 18 ∷ 19 ∷ [])
 
 -- ---- "each node is free, or held by one worker, or on the chain, or waiting for busy workers"
 pub record Free (s : State) (n : ℕ) : Type 0 where
@@ -99,14 +118,16 @@ isRemoved k nothing = 0
 isRemoved k (added j) = 0
 isRemoved k (removed j) = pick (eqb j k) 1 0
 
--- how many inserts and deletes of the key took effect in the first i calls
+-- a count of the events of the first i calls, and by it the inserts and deletes of a key that took effect
+abbrev pub tallied : (Event → ℕ) → Run → ℕ → ℕ
+tallied f r zero = 0
+tallied f r (suc i) = f (event (state r i) (r .call i)) + tallied f r i
+
 abbrev pub inserted : Run → ℕ → ℕ → ℕ
-inserted r k zero = 0
-inserted r k (suc i) = isAdded k (event (state r i) (r .call i)) + inserted r k i
+inserted r k i = tallied (isAdded k) r i
 
 abbrev pub deleted : Run → ℕ → ℕ → ℕ
-deleted r k zero = 0
-deleted r k (suc i) = isRemoved k (event (state r i) (r .call i)) + deleted r k i
+deleted r k i = tallied (isRemoved k) r i
 
 abbrev pub Ledger : Type 0
 Ledger =
@@ -126,6 +147,7 @@ PastKept =
     (r : Run) (i n : ℕ)
     → (nodesOf (state r i .header) * 3 ≤ n → getD (state r i .nodes) n 0 ≡ getD (r .fresh .nodes) n 0)
     × (state r i .header .m ≤ n → getD (state r i .buckets) n 0 ≡ getD (r .fresh .buckets) n 0)
+    × (state r i .header .w ≤ n → workerOf (state r i) n ≡ getD (r .fresh .workers) n idle)
 
 -- ---- "own effect": an event is that of the operation whose worker steps, with the kind and key that it was started with
 abbrev pub Belongs : Run → ℕ → Event → Type 0
@@ -144,20 +166,18 @@ abbrev pub effects : Run → ℕ → ℕ → ℕ
 effects r w zero = 0
 effects r w (suc i) = pick (startsOf w (r .call i) (answer (state r i) (r .call i))) 0 (owns w (r .call i) (event (state r i) (r .call i)) + effects r w i)
 
--- an answer that ends an operation: 1, 2, 18, 19
-abbrev pub Ends : Answer → Type 0
-Ends a = (a ≡ Yes) ⊎ (a ≡ No) ⊎ (a ≡ NoKeyNode) ⊎ (a ≡ NoDummy)
-
 -- an operation has at most one; it ended with yes to insert or delete exactly if it had one
-pub record OwnEffect (r : Run) (i : ℕ) : Type 0 where
+pub record EffectAt (r : Run) (i : ℕ) : Type 0 where
   pub belongs : Belongs r i (event (state r i) (r .call i))
   pub few : (w : ℕ) → w < state r i .header .w → effects r w i ≤ 1
   pub yes :
-      (w kind k : ℕ) → r .call i ≡ step w → r .call (began r w i) ≡ start w kind k → answer (state r i) (r .call i) ≡ Yes → kind ≢ FIND
-      → effects r w (suc i) ≡ 1
+      (w kind k : ℕ) → r .call i ≡ step w → Operation r w i kind k → answer (state r i) (r .call i) ≡ Yes → kind ≢ FIND → effects r w (suc i) ≡ 1
   pub else :
-      (w kind k : ℕ) → r .call i ≡ step w → r .call (began r w i) ≡ start w kind k → Ends (answer (state r i) (r .call i))
+      (w kind k : ℕ) → r .call i ≡ step w → Operation r w i kind k → Ends (answer (state r i) (r .call i))
       → (answer (state r i) (r .call i) ≡ Yes → kind ≡ FIND) → effects r w (suc i) ≡ 0
+
+abbrev pub OwnEffect : Type 0
+OwnEffect = (r : Run) (i : ℕ) → EffectAt r i
 
 -- ---- "each answer is true at a moment": at a call of its own it took effect, or nothing did and the answer is true of the registered keys
 abbrev pub OwnEvent : ℕ → ℕ → Event → Type 0
@@ -176,7 +196,7 @@ pub record Moment (r : Run) (w kind k b e : ℕ) (a : Answer) : Type 0 where
 
 abbrev pub TrueAtAMoment : Type 0
 TrueAtAMoment =
-    (r : Run) (e w kind k : ℕ) → r .call e ≡ step w → r .call (began r w e) ≡ start w kind k
+    (r : Run) (e w kind k : ℕ) → r .call e ≡ step w → Operation r w e kind k
     → (answer (state r e) (r .call e) ≡ Yes) ⊎ (answer (state r e) (r .call e) ≡ No)
     → Moment r w kind k (began r w e) e (answer (state r e) (r .call e))
 
@@ -203,18 +223,19 @@ removes (removed k) = 1
 
 -- inserts and deletes in effect in the first i calls
 abbrev pub additions : Run → ℕ → ℕ
-additions r zero = 0
-additions r (suc i) = adds (event (state r i) (r .call i)) + additions r i
+additions r i = tallied adds r i
 
 abbrev pub removals : Run → ℕ → ℕ
-removals r zero = 0
-removals r (suc i) = removes (event (state r i) (r .call i)) + removals r i
+removals r i = tallied removes r i
 
 -- the two sides; a count word from 2,147,483,648 on stands for itself less 4,294,967,296
-abbrev pub Counts : Run → ℕ → Type 0
-Counts r i =
+abbrev pub CountAt : Run → ℕ → Type 0
+CountAt r i =
     let s = state r i in
     let c = s .header .count in
     let got = c + sumOf uncountedIn (s .workers) (s .header .w) + removals r i in
     let due = additions r i + sumOf uncountedOut (s .workers) (s .header .w) in
     ((c < 2147483648) × (got ≡ due)) ⊎ ((2147483648 ≤ c) × (got ≡ due + 4294967296))
+
+abbrev pub Count : Type 0
+Count = (r : Run) (i : ℕ) → CountAt r i
