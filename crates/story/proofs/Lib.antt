@@ -22,3 +22,4 @@ pub mod Moments
 pub mod Answers
 pub mod Keys
 pub mod Counting
+pub mod Contracts
