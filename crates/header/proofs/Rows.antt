@@ -11,11 +11,11 @@ use lib.Pow.{pow-mono, pow-pos}
 use borrow.Author.Tests.{leb-true, leb-false}
 use Rattle.choice.proofs.Exactly.{Tells}
 use Rattle.choice.proofs.Telling.{tells-as, tells-eq, tells-le, tells-or, tells-and, tells-broken, Clears, clears-as, clears-lt, clears-le, clears-not, clears-or}
-use Rattle.split.specs.Split.{powerBelow, powerOfTwo}
+use Rattle.split.specs.Split.{powerBelow, powerOfTwo, powerUpTo}
 use Rattle.split.proofs.Laws.Power.{top-bit}
 use Rattle.sets.specs.Sets.{bit}
 use Rattle.sets.proofs.Laws.{bit-far}
-use Rattle.header.specs.Header.{powerUpTo, outside, limitBroken, sizeBroken, busyBeyond, headerDamaged}
+use Rattle.header.specs.Header.{nodesOf, outside, limitBroken, sizeBroken, busyBeyond, headerDamaged}
 use Rattle.header.specs.Rows.{IsPower, PowerFromTo, Limits, LimitBroken, SizeBroken, BusyBeyond, HeaderDamaged}
 use Rattle.header.specs.declared.Header.{Header}
 
@@ -139,3 +139,7 @@ module _ (h : Header) (fine : headerDamaged h ≡ false) where
   -- busy has no bit at W or above
   pub busy-of : h .busy < 2 ^ h .w
   busy-of = sound-header h .sound fine .1
+
+-- limits that hold are small
+pub limits-small : (h : Header) → Limits h → nodesOf h ≤ 5136
+limits-small h l = omega (arith, l .buckets .1, l .keys .1, l .workers .1)

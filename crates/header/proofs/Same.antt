@@ -2,8 +2,8 @@
 -- Assumes nothing.
 use mathlib.Core.Path.{sym, _∙_}
 use Rattle.choice.proofs.Same.{Determined}
-use Rattle.header.proofs.power_up_to.Reads as power-up-to
-use Rattle.header.proofs.power_up_to.Kinds as power-up-to-kinds
+use Rattle.header.proofs.Header.short.Reads as short
+use Rattle.header.proofs.Header.short.Kinds as short-kinds
 use Rattle.header.proofs.Header.nodes.Reads as nodes
 use Rattle.header.proofs.Header.nodes.Kinds as nodes-kinds
 use Rattle.header.proofs.Header.limit_broken.Reads as limit-broken
@@ -13,8 +13,8 @@ use Rattle.header.proofs.Header.damaged.Kinds as damaged-kinds
 use Rattle.header.proofs.Header.doubles.Reads as doubles
 use Rattle.header.proofs.Header.doubles.Kinds as doubles-kinds
 
-pub power-up-to-same : Determined 0 power-up-to-kinds.ps power-up-to-kinds.r power-up-to.Post
-power-up-to-same κs a x y e f p q = p ∙ sym q
+pub short-same : Determined 0 short-kinds.ps short-kinds.r short.Post
+short-same κs a x y e f p q = p ∙ sym q
 
 pub nodes-same : Determined 0 nodes-kinds.ps nodes-kinds.r nodes.Post
 nodes-same κs a x y e f p q = p ∙ sym q

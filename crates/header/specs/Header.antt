@@ -3,7 +3,7 @@ use Prim.Native.Nat.{ℕ, _+_, _*_, _/_, _^_}
 use mathlib.Core.Bool.{Bool, true, false, not, _&&_, _||_}
 use lib.Dec.{leb, ltb, eqb}
 use Rattle.choice.specs.Choice.{pick}
-use Rattle.split.specs.Split.{powerOfTwo}
+use Rattle.split.specs.Split.{powerUpTo}
 use Rattle.header.specs.declared.Header.{Header}
 
 -- the header with another size, count or set of busy workers; antt has no update of a record
@@ -23,10 +23,6 @@ dummiesOf h = h .m + h .w
 abbrev pub nodesOf : Header → ℕ
 nodesOf h = h .m + h .w + h .k
 
--- x is a power of two from 2 to `most`
-unfoldable pub powerUpTo : ℕ → ℕ → Bool
-powerUpTo most x = leb 2 x && leb x most && powerOfTwo x
-
 abbrev pub outside : ℕ → ℕ → ℕ → Bool
 outside low high x = ltb x low || ltb high x
 
@@ -44,6 +40,10 @@ busyBeyond h = leb (2 ^ h .w) (h .busy)
 
 unfoldable pub headerDamaged : Header → Bool
 headerDamaged h = limitBroken h || sizeBroken h || busyBeyond h
+
+-- 11: fewer than 3N node words or M bucket words
+unfoldable pub isShort : Header → ℕ → ℕ → Bool
+isShort h nodes buckets = ltb nodes (nodesOf h * 3) || ltb buckets (h .m)
 
 -- I9's load test: old is not negative, old / size (rounded down) is above L, and the size read is below M
 unfoldable pub doubles : Header → ℕ → ℕ → Bool

@@ -1,6 +1,6 @@
 // The register's header, by value: its faults, row by row of the scope paper, and the load test.
 ghost use mathlib.Core.Path.{_≡_};
-ghost use Rattle.header.specs.Header.{nodesOf, powerUpTo, limitBroken, sizeBroken, busyBeyond, headerDamaged, doubles};
+ghost use Rattle.header.specs.Header.{nodesOf, limitBroken, sizeBroken, busyBeyond, headerDamaged, isShort, doubles};
 
 // The register's header: limits M, K, W, L, the size, the count and the set of busy workers.
 pub struct Header {
@@ -11,13 +11,6 @@ pub struct Header {
     pub size: u32,
     pub count: u32,
     pub busy: u32,
-}
-
-// x is a power of two from 2 to `most`.
-pub fn power_up_to(most: u32, x: u32) -> bool
-    ensures { λ r. ⌜ r ≡ powerUpTo most x ⌝ }
-{
-    (2 <= x) & (x <= most) & split::power_of_two(x)
 }
 
 impl Header {
@@ -32,7 +25,7 @@ impl Header {
     pub fn limit_broken(self) -> bool
         ensures { λ r. ⌜ r ≡ limitBroken self ⌝ }
     {
-        !power_up_to(1024, self.m)
+        !split::power_up_to(1024, self.m)
             | ((self.k < 1) | (4096 < self.k))
             | ((self.w < 1) | (16 < self.w))
             | ((self.l < 1) | (8 < self.l))
@@ -41,7 +34,7 @@ impl Header {
     fn size_broken(self) -> bool
         ensures { λ r. ⌜ r ≡ sizeBroken self ⌝ }
     {
-        !power_up_to(self.m, self.size)
+        !split::power_up_to(self.m, self.size)
     }
 
     // A word has no bit at 32 or above.
@@ -59,6 +52,13 @@ impl Header {
         ensures { λ r. ⌜ r ≡ headerDamaged self ⌝ }
     {
         self.limit_broken() | self.size_broken() | self.busy_beyond()
+    }
+
+    // 11: a lent table has fewer than 3N node words or M bucket words.
+    pub fn short(self, nodes: usize, buckets: usize) -> bool
+        ensures { λ r. ⌜ r ≡ isShort self nodes buckets ⌝ }
+    {
+        ((nodes as u64) < self.nodes() * 3) | ((buckets as u64) < (self.m as u64))
     }
 
     // The load test of figure 5, lines I9 and I10: with its top bit set the old count is negative.

@@ -12,10 +12,10 @@ use Rattle.header.specs.Header.{nodesOf, doubles}
 use Rattle.record.specs.Fields.{to, withErrand, withWanted, withMaking, withSize, withStart, withPrev, withCur, withNext, withMarked, withHeld, withDummy}
 use Rattle.record.specs.declared.Worker.{Worker}
 use Rattle.moves.specs.declared.Seen.{Seen}
-use Rattle.moves.specs.declared.Effect.{Effect}
-use Rattle.moves.specs.declared.Effect.the-variants.{Nothing, Take, Free, Aim, Place, Mark, Unlink, Store, Count, Size}
-use Rattle.moves.specs.declared.Move.{Move}
-use Rattle.moves.specs.declared.Move.the-variants.{Damaged, Going, Ended}
+use Rattle.acts.specs.declared.Effect.{Effect}
+use Rattle.acts.specs.declared.Effect.the-variants.{Nothing, Take, Free, Aim, Place, Mark, Unlink, Store, Count, Size}
+use Rattle.acts.specs.declared.Move.{Move}
+use Rattle.acts.specs.declared.Move.the-variants.{Damaged, Going, Ended}
 
 -- ---- small words
 -- "a link read is above 2N+1", "a bucket word read is above N"

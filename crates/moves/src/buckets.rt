@@ -1,9 +1,9 @@
 // The places that find a bucket and make it: TB, B2, B4, B8.
 ghost use mathlib.Core.Path.{_≡_};
 ghost use Rattle.moves.specs.Moves.{tb, b2, b4, b8};
-use crate::Effect;
-use crate::Move;
 use crate::Seen;
+use acts::Effect;
+use acts::Move;
 use names::Answer;
 use names::errand;
 use names::kind;

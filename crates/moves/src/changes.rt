@@ -1,11 +1,12 @@
 // The places that change the set, its count and its size: I1, SZ, L2, I8, I9, I10, D4a, D4b, D6.
 ghost use mathlib.Core.Path.{_≡_};
 ghost use Rattle.moves.specs.Moves.{l2, placed, i1, sz, i8, i9, i10, d4a, d4b, d6};
-use crate::Effect;
-use crate::Move;
 use crate::Seen;
 use crate::held_for;
+use crate::is_to;
 use crate::remainder;
+use acts::Effect;
+use acts::Move;
 use names::Answer;
 use names::errand;
 use names::place;
@@ -21,7 +22,7 @@ impl Seen {
         if (held == 0) | (x.prev == 0) | (!itself & self.bad_link()) {
             return Move::Damaged;
         }
-        if itself | words::is_to(self.word, x.cur) {
+        if itself | is_to(self.word, x.cur) {
             return self.placed(held);
         }
         x.place = place::F1;
@@ -140,7 +141,7 @@ impl Seen {
         if (x.cur == 0) | self.bad_link() {
             return Move::Damaged;
         }
-        if words::is_to(self.word, x.next) {
+        if is_to(self.word, x.next) {
             x.place = place::D4B;
             return Move::Going {
                 worker: x,
@@ -165,7 +166,7 @@ impl Seen {
         if (x.prev == 0) | self.bad_link() {
             return Move::Damaged;
         }
-        if words::is_to(self.word, x.cur) {
+        if is_to(self.word, x.cur) {
             if x.cur == 0 {
                 return Move::Damaged;
             }

@@ -1,7 +1,10 @@
 // What one step does, place by place, decided from numbers alone: the header, the record and the word that the step read.
 ghost use mathlib.Core.Path.{_≡_};
 ghost use Prim.Native.Nat.{_%_};
+ghost use Rattle.words.specs.Words.{isTo};
 ghost use Rattle.moves.specs.Moves.{badLink, wantOf, heldFor, notFound, found, foundKey, comes, f1, f2, f3, judged, f4, decided};
+use acts::Effect;
+use acts::Move;
 use header::Header;
 use names::Answer;
 use names::errand;
@@ -20,63 +23,6 @@ pub struct Seen {
     pub split: u32,
 }
 
-// The write of one step, by what it does to shared memory.
-pub enum Effect {
-    Nothing,
-    // I1, B4: the node is taken, with its split key.
-    Take {
-        node: u32,
-        split: u32,
-    },
-    // The dummy that another worker made first is free.
-    Free {
-        node: u32,
-    },
-    // L2 failed: the held node's link is written all the same.
-    Aim {
-        node: u32,
-        next: u32,
-    },
-    // L2 done: the held node is on the chain, between prev and next.
-    Place {
-        node: u32,
-        next: u32,
-        prev: u32,
-    },
-    // D4a done: the node is marked.
-    Mark {
-        node: u32,
-        next: u32,
-    },
-    // F4, D4b done: the node is off the chain and waits for the busy workers.
-    Unlink {
-        prev: u32,
-        next: u32,
-        node: u32,
-        busy: u32,
-    },
-    // B8: the bucket is set.
-    Store {
-        bucket: u32,
-        node: u32,
-    },
-    // I9, D6: the shared count.
-    Count {
-        value: u32,
-    },
-    // I10: the size.
-    Size {
-        value: u32,
-    },
-}
-
-// What is decided: damaged words, or the record that goes on, or the answer that ends the operation, with the write.
-pub enum Move {
-    Damaged,
-    Going { worker: Worker, effect: Effect },
-    Ended { answer: Answer, effect: Effect },
-}
-
 // x mod d, and x where d is 0.
 fn remainder(x: u32, d: u32) -> u32
     ensures { λ r. ⌜ r ≡ x % d ⌝ }
@@ -85,6 +31,13 @@ fn remainder(x: u32, d: u32) -> u32
         return x;
     }
     x % d
+}
+
+// The link word is (0, n): unmarked, with n its next node. Compared in 64 bits, so that no number is cut.
+fn is_to(link: u32, n: u32) -> bool
+    ensures { λ r. ⌜ r ≡ isTo link n ⌝ }
+{
+    (link as u64) == (n as u64) * 2
 }
 
 // The wanted split key: a dummy's, or the key's.
@@ -231,7 +184,7 @@ impl Seen {
         if (x.prev == 0) | self.bad_link() {
             return Move::Damaged;
         }
-        if words::is_to(self.word, x.cur) {
+        if is_to(self.word, x.cur) {
             return self.judged();
         }
         x.place = place::F1;
@@ -273,7 +226,7 @@ impl Seen {
         if (x.prev == 0) | self.bad_link() {
             return Move::Damaged;
         }
-        if words::is_to(self.word, x.cur) {
+        if is_to(self.word, x.cur) {
             if x.cur == 0 {
                 return Move::Damaged;
             }

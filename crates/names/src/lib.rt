@@ -29,6 +29,12 @@ pub enum Answer {
     NoDummy,
 }
 
+// Whether a call is refused before any word is read.
+pub enum Verdict {
+    Pass,
+    Refused(Answer),
+}
+
 impl Answer {
     // The scope paper's number.
     pub fn number(self) -> u32

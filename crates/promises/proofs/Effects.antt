@@ -15,6 +15,7 @@ use Rattle.header.specs.declared.Header.{Header}
 use Rattle.header.specs.Header.{nodesOf}
 use Rattle.record.specs.Worker.{heldKey, heldDummy}
 use Rattle.register.specs.declared.Turn.{Turn}
+use Rattle.writes.specs.Carry.{closedBy}
 use Rattle.register.specs.Step.{closed}
 use Rattle.promises.specs.Access.{Part, splitKey, link, standing, spot, Word, ofNode, ofBucket, word-discrete, part-discrete, value, Lent, Long, Alike}
 use Rattle.promises.proofs.Stores.{Stored, stored, All, nodesBy, bucketsBy, nodesAll, bucketsAll}
@@ -98,7 +99,7 @@ free-apart v ns bs (suc k) n h far = put-apart v ns bs (suc k) standing 0 (far (
 pub closed-apart :
     (t : Turn) → InRange (t .header) (t .worker) → (v : Word) (ns bs : List ℕ) → NoStanding (nodesOf (t .header)) v
     → value v (closed t ns) bs ≡ value v ns bs
-unfolding closed
+unfolding closedBy
 closed-apart t r v ns bs far =
     let h = t .header in
     let x = t .worker in
@@ -112,7 +113,7 @@ abbrev frees : Turn → List Stored
 frees t = stored (ofNode (heldKey (t .worker)) standing) 0 ∷ stored (ofNode (heldDummy (t .worker)) standing) 0 ∷ []
 
 pub closed-length : (t : Turn) (ns : List ℕ) → length (closed t ns) ≡ length ns
-unfolding closed
+unfolding closedBy
 closed-length t ns = sweep-length (t .number) (nodesOf (t .header)) (nodesAll (frees t) ns) ∙ all-length (frees t) ns [] .0
 
 -- ---- the same store to two pairs of tables
@@ -162,7 +163,7 @@ module _ (h : Header) where
 pub closed-same :
     (t : Turn) (i : ℕ) (ns bs ks cs : List ℕ) → 1 ≤ i → i ≤ nodesOf (t .header) → Long (t .header) ns bs → Long (t .header) ks cs
     → word ns i STANDING ≡ word ks i STANDING → word (closed t ns) i STANDING ≡ word (closed t ks) i STANDING
-unfolding closed
+unfolding closedBy
 closed-same t i ns bs ks cs low high l m e =
     swept ns (l .nodes) ∙
     ap (leave (t .number)) (agreed _ _ _ _ e (all-alike (t .header) (frees t) (ofNode i standing) ns bs ks cs high l m)) ∙

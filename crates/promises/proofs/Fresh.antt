@@ -22,10 +22,11 @@ use Rattle.header.specs.declared.Header.{Header}
 use Rattle.header.specs.Header.{nodesOf, limitBroken}
 use Rattle.header.specs.Rows.{Limits as Limited}
 use Rattle.header.proofs.Rows.{limits}
-use Rattle.register.specs.declared.Limits.{Limits}
-use Rattle.register.specs.declared.Verdict.{Verdict}
-use Rattle.register.specs.declared.Verdict.the-variants.{Pass, Refused}
-use Rattle.register.specs.Calls.{Kept, freshHeader, isShort, prepareVerdict, preparedBy, prepared}
+use Rattle.prepare.specs.declared.Limits.{Limits}
+use Rattle.names.specs.declared.Verdict.{Verdict}
+use Rattle.names.specs.declared.Verdict.the-variants.{Pass, Refused}
+use Rattle.prepare.specs.Prepare.{Kept, freshHeader, prepareVerdict, preparedBy, prepared}
+use Rattle.header.specs.Header.{isShort}
 use Rattle.promises.specs.Fresh.{Fresh, PrepareFresh}
 
 -- a refusal of preparing is no 0

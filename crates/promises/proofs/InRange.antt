@@ -18,12 +18,14 @@ use Rattle.names.specs.declared.Answer.{Answer}
 use Rattle.header.specs.declared.Header.{Header}
 use Rattle.header.specs.Header.{nodesOf, dummiesOf}
 use Rattle.record.specs.declared.Worker.{Worker}
-use Rattle.record.specs.Worker.{bucketBeyond, nodeBeyond, workerDamaged, heldKey, heldDummy}
+use Rattle.faults.specs.Faults.{bucketBeyond, nodeBeyond, workerDamaged}
+use Rattle.record.specs.Worker.{heldKey, heldDummy}
 use Rattle.moves.specs.Moves.{heldFor, decided}
 use Rattle.register.specs.declared.Turn.{Turn}
-use Rattle.register.specs.declared.Verdict.{Verdict}
-use Rattle.register.specs.declared.Verdict.the-variants.{Pass, Refused}
-use Rattle.register.specs.Step.{After, after, refusedWith, wordAt, wordFor, seenBy, carried}
+use Rattle.names.specs.declared.Verdict.{Verdict}
+use Rattle.names.specs.declared.Verdict.the-variants.{Pass, Refused}
+use Rattle.writes.specs.Carry.{After, after}
+use Rattle.register.specs.Step.{refusedWith, wordAt, wordFor, seenBy, carried}
 use Rattle.register.specs.Calls.{steppedBy, stepVerdict, stepOf}
 use Rattle.promises.specs.Access.{placeOf}
 

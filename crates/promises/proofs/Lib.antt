@@ -10,4 +10,5 @@ pub mod WritesOnly
 pub mod OneAccess
 pub mod WordsRead
 pub mod Refusals
+pub mod Tables
 pub mod Wrong

@@ -10,15 +10,16 @@ use lib.ListN.{length}
 use Rattle.names.specs.declared.Answer.{Answer}
 use Rattle.header.specs.declared.Header.{Header}
 use Rattle.header.specs.Header.{nodesOf}
-use Rattle.moves.specs.declared.Effect.{Effect}
-use Rattle.moves.specs.declared.Move.{Move}
-use Rattle.moves.specs.declared.Move.the-variants.{Damaged, Going, Ended}
+use Rattle.acts.specs.declared.Effect.{Effect}
+use Rattle.acts.specs.declared.Move.{Move}
+use Rattle.acts.specs.declared.Move.the-variants.{Damaged, Going, Ended}
 use Rattle.moves.specs.Moves.{decided}
 use Rattle.register.specs.declared.Turn.{Turn}
-use Rattle.register.specs.declared.Verdict.{Verdict}
-use Rattle.register.specs.declared.Verdict.the-variants.{Pass, Refused}
+use Rattle.names.specs.declared.Verdict.{Verdict}
+use Rattle.names.specs.declared.Verdict.the-variants.{Pass, Refused}
 use Rattle.writes.specs.Writes.{nodesAfter, bucketsAfter}
-use Rattle.register.specs.Step.{After, seenBy, closed, carried}
+use Rattle.writes.specs.Carry.{After}
+use Rattle.register.specs.Step.{seenBy, closed, carried}
 use Rattle.register.specs.Calls.{steppedBy, stepVerdict, stepOf}
 use Rattle.promises.specs.Access.{Word, ofNode, ofBucket, splitKey, link, standing, value, Lent, Long, Alike, Agree, Reads, SameStandings, Ends}
 use Rattle.promises.specs.OneAccess.{valueIn, SameStep, WritesSame}

@@ -24,24 +24,27 @@ use Rattle.header.specs.declared.Header.{Header}
 use Rattle.header.specs.Header.{nodesOf, dummiesOf}
 use Rattle.header.proofs.Rows.{limit-broken, header-damaged}
 use Rattle.record.specs.declared.Worker.{Worker}
-use Rattle.record.specs.Rows.{IsOneOf, WorkerDamaged}
-use Rattle.record.proofs.Rows.{worker-damaged}
+use Rattle.faults.specs.Rows.{IsOneOf, WorkerDamaged}
+use Rattle.faults.proofs.Rows.{worker-damaged}
 use Rattle.moves.specs.declared.Seen.{Seen}
-use Rattle.moves.specs.declared.Effect.{Effect}
-use Rattle.moves.specs.declared.Effect.the-variants.{Nothing}
-use Rattle.moves.specs.declared.Move.{Move}
-use Rattle.moves.specs.declared.Move.the-variants.{Damaged, Going, Ended}
+use Rattle.acts.specs.declared.Effect.{Effect}
+use Rattle.acts.specs.declared.Effect.the-variants.{Nothing}
+use Rattle.acts.specs.declared.Move.{Move}
+use Rattle.acts.specs.declared.Move.the-variants.{Damaged, Going, Ended}
 use Rattle.moves.specs.Moves.{i1, sz, tb, b2, b4, f1, f2, f3, f4, l2, b8, i8, i9, i10, d4a, d4b, decidedAt, decided}
+use Rattle.prepare.specs.declared.Limits.{Limits}
 use Rattle.register.specs.declared.Turn.{Turn}
-use Rattle.register.specs.declared.Verdict.{Verdict}
+use Rattle.names.specs.declared.Verdict.{Verdict}
 use Rattle.register.specs.Step.{wordAt, wordFor, splitFor, seenBy, carried}
-use Rattle.register.specs.Calls.{isShort, freshHeader, preparedBy, prepareVerdict, prepared, startedBy, startVerdict, startOf, steppedBy, stepVerdict, stepOf}
+use Rattle.header.specs.Header.{isShort}
+use Rattle.prepare.specs.Prepare.{freshHeader, preparedBy, prepareVerdict, prepared}
+use Rattle.register.specs.Calls.{startedBy, startVerdict, startOf, steppedBy, stepVerdict, stepOf}
 use Rattle.promises.specs.Access.{placeOf}
-use Rattle.promises.specs.Refusals.{TooShort, UnknownKind, NoneFree, NoKeyFree, NoDummyFree, Places, nowhere, at, AtPlace, placeClaims, PrepareExactly, StartExactly, StepExactly}
+use Rattle.promises.specs.Refusals.{TooShort, UnknownKind, NoneFree, NoKeyFree, NoDummyFree, Places, nowhere, at, AtPlace, placeClaims, prepareClaims, startClaims, stepClaims, PrepareExactly, StartExactly, StepExactly}
 use Rattle.promises.proofs.WordsRead.{Fine, going, ended, Plain, broken, sound, unclaimed, Known, tb-plain, b2-plain, f1-plain, f2-plain, f3-plain, f4-plain, l2-plain, b8-plain, d4a-plain, d4b-plain, sz-fine, i8-fine, i9-fine, i10-fine, d6-fine}
 
 -- an answer below 10 refuses nothing
-abbrev Allowed : Answer → Type 0
+abbrev pub Allowed : Answer → Type 0
 Allowed a = numberOf a < 10
 
 -- 11
@@ -66,34 +69,41 @@ unknown-kind kind =
     from (inr (inl e)) = (omega arith, omega arith)
     from (inr (inr (inl e))) = (omega arith, omega arith)
 
-pub prepare-exactly : PrepareExactly
+-- what is answered is what the first row that holds says, and it refuses nothing where none holds
+pub prepare-gives :
+    (l : Limits) (h : Header) (ns bs : List ℕ)
+    → Gives Allowed (prepared l h ns bs .out .answer) (prepareClaims l (TooShort (freshHeader l) (length ns) (length bs)))
 unfolding prepared prepareVerdict
-prepare-exactly l h ns bs a r =
-    refused-exactly {Fine = Allowed} a
-    (gives-row answer (limit-broken (freshHeader l)) refl
+prepare-gives l h ns bs =
+    gives-row answer (limit-broken (freshHeader l)) refl
     (λ _. gives-row answer (too-short (freshHeader l) (length ns) (length bs)) refl
-    (λ _. fine (omega arith))))
-    (λ f. omega arith)
+    (λ _. fine (omega arith)))
   where
     answer : Verdict → Answer
     answer v = preparedBy l h ns bs v .out .answer
 
-pub start-exactly : StartExactly
+pub prepare-exactly : PrepareExactly
+prepare-exactly l h ns bs a r = refused-exactly a (prepare-gives l h ns bs) (λ f. omega arith)
+
+pub start-gives :
+    (t : Turn) (kind key nodes buckets : ℕ)
+    → Gives Allowed (startOf t kind key nodes buckets .answer) (startClaims t kind key (TooShort (t .header) nodes buckets))
 unfolding startOf startVerdict
-start-exactly t kind key nodes buckets a r =
-    refused-exactly {Fine = Allowed} a
-    (gives-row answer (header-damaged (t .header)) refl
+start-gives t kind key nodes buckets =
+    gives-row answer (header-damaged (t .header)) refl
     (λ _. gives-row answer (too-short (t .header) nodes buckets) refl
     (λ _. gives-row answer (tells-le (t .header .w) (t .number)) refl
     (λ _. gives-row answer (unknown-kind kind) refl
     (λ _. gives-row answer (tells-lt KEY-LIMIT key) refl
     (λ _. gives-row answer (worker-damaged (t .header) (t .number) (t .worker)) refl
     (λ _. gives-row answer (tells-not (tells-eq (placeOf t) IDLE)) refl
-    (λ _. fine (omega arith)))))))))
-    (λ f. omega arith)
+    (λ _. fine (omega arith))))))))
   where
     answer : Verdict → Answer
     answer v = startedBy t kind key v .answer
+
+pub start-exactly : StartExactly
+start-exactly t kind key nodes buckets a r = refused-exactly a (start-gives t kind key nodes buckets) (λ f. omega arith)
 
 -- ---- a step that passes its table
 -- the claim that stands at the place, and none where the place is not listed
@@ -262,17 +272,19 @@ known-of t whole nk ne = by (ℕ-discrete (t .worker .errand) DUMMY)
     by (yes e) = e
     by (no nd) = absurd (whole (inl (inr (inl (⊎-elim nk (⊎-elim nd (⊎-elim ne (λ n. n))))))))
 
-pub step-exactly : StepExactly
+pub step-gives :
+    (t : Turn) (ns bs : List ℕ) → Gives Allowed (stepOf t ns bs .out .answer) (stepClaims t ns bs (TooShort (t .header) (length ns) (length bs)))
 unfolding stepOf stepVerdict decided wordFor splitFor
-step-exactly t ns bs a r =
-    refused-exactly {Fine = Allowed} a
-    (gives-row answer (header-damaged (t .header)) refl
+step-gives t ns bs =
+    gives-row answer (header-damaged (t .header)) refl
     (λ _. gives-row answer (too-short (t .header) (length ns) (length bs)) refl
     (λ _. gives-row answer (tells-le (t .header .w) (t .number)) refl
     (λ _. gives-row answer (worker-damaged (t .header) (t .number) (t .worker)) refl
     (λ whole. gives-row answer (tells-eq (placeOf t) IDLE) refl
-    (λ _. rw (← carried-answer t ns bs (decided (seenBy t ns bs))) at (told-at t ns bs (known-of t whole) (placeOf t) .given)))))))
-    (λ f. omega arith)
+    (λ _. rw (← carried-answer t ns bs (decided (seenBy t ns bs))) at (told-at t ns bs (known-of t whole) (placeOf t) .given))))))
   where
     answer : Verdict → Answer
     answer v = steppedBy t ns bs v .out .answer
+
+pub step-exactly : StepExactly
+step-exactly t ns bs a r = refused-exactly a (step-gives t ns bs) (λ f. omega arith)

@@ -6,15 +6,16 @@ use mathlib.Core.Path.{refl}
 use native.Mathlib.Omega.{arith}
 use lib.ListN.{length}
 use Rattle.header.specs.declared.Header.{Header}
-use Rattle.moves.specs.declared.Move.{Move}
-use Rattle.moves.specs.declared.Move.the-variants.{Damaged, Going, Ended}
+use Rattle.acts.specs.declared.Move.{Move}
+use Rattle.acts.specs.declared.Move.the-variants.{Damaged, Going, Ended}
 use Rattle.moves.specs.Moves.{decided}
-use Rattle.register.specs.declared.Limits.{Limits}
+use Rattle.prepare.specs.declared.Limits.{Limits}
 use Rattle.register.specs.declared.Turn.{Turn}
-use Rattle.register.specs.declared.Verdict.{Verdict}
-use Rattle.register.specs.declared.Verdict.the-variants.{Pass, Refused}
+use Rattle.names.specs.declared.Verdict.{Verdict}
+use Rattle.names.specs.declared.Verdict.the-variants.{Pass, Refused}
 use Rattle.register.specs.Step.{wordFor, splitFor, seenBy, carried}
-use Rattle.register.specs.Calls.{preparedBy, prepareVerdict, prepared, startedBy, startVerdict, startOf}
+use Rattle.prepare.specs.Prepare.{preparedBy, prepareVerdict, prepared}
+use Rattle.register.specs.Calls.{startedBy, startVerdict, startOf}
 use Rattle.promises.specs.Unchanged.{Refusal, HandedBack, Untouched, AsBefore, StepUnchanged, StartUnchanged, PrepareUnchanged}
 use Rattle.promises.proofs.InRange.{by-verdict}
 use Rattle.promises.proofs.Shape.{Final, effect-at}

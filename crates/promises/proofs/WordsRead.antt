@@ -17,9 +17,9 @@ use Rattle.names.specs.declared.Answer.the-variants.{Yes}
 use Rattle.header.specs.declared.Header.{Header}
 use Rattle.record.specs.declared.Worker.{Worker}
 use Rattle.moves.specs.declared.Seen.{Seen}
-use Rattle.moves.specs.declared.Effect.{Effect}
-use Rattle.moves.specs.declared.Move.{Move}
-use Rattle.moves.specs.declared.Move.the-variants.{Damaged, Going, Ended}
+use Rattle.acts.specs.declared.Effect.{Effect}
+use Rattle.acts.specs.declared.Move.{Move}
+use Rattle.acts.specs.declared.Move.the-variants.{Damaged, Going, Ended}
 use Rattle.moves.specs.Moves.{badLink, wantOf, heldFor, notFound, foundKey, found, comes, f1, f2, judged, f3, f4, placed, l2, tb, b2, b8, sz, i8, i9, i10, d4a, d4b, d6}
 use Rattle.promises.specs.Refusals.{BucketAbove, LinkAbove, LinkDamaged, LinksTo, SwapDamaged, FoundDamaged, CurDamaged, SearchDamaged, PlaceDamaged}
 

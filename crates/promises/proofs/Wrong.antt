@@ -10,12 +10,16 @@ use Rattle.words.specs.Words.{LINK, STANDING, word, put, bucket, store, linkWor
 use Rattle.sets.specs.Sets.{bit, isIn, dropped, raised}
 use Rattle.scans.specs.Scans.{leave, sweep, freeFrom, lowest}
 use Rattle.names.specs.Names.{numberOf}
-use Rattle.header.specs.Header.{powerUpTo, limitBroken, sizeBroken, busyBeyond, headerDamaged, doubles}
-use Rattle.record.specs.Worker.{begun, heldKey, heldDummy, unknownName, bucketBeyond, nodeBeyond, bitDisagrees, idleNotZero, kindMisfit, errandMisfit, makingAstray, sizeMisfit, workerDamaged}
+use Rattle.split.specs.Split.{powerUpTo}
+use Rattle.header.specs.Header.{limitBroken, sizeBroken, busyBeyond, headerDamaged, doubles}
+use Rattle.record.specs.Worker.{begun, heldKey, heldDummy}
+use Rattle.faults.specs.Faults.{unknownName, bucketBeyond, nodeBeyond, bitDisagrees, idleNotZero, kindMisfit, errandMisfit, makingAstray, sizeMisfit, workerDamaged}
 use Rattle.moves.specs.Moves.{badLink, heldFor, notFound, comes, f1, placed, l2, tb, b4, i1, sz, i8, i9, d4b, d6, decidedAt, decided}
-use Rattle.register.specs.declared.Outcome.{Outcome}
-use Rattle.register.specs.Step.{After, wordAt, wordFor, splitFor, closed, tick}
-use Rattle.register.specs.Calls.{isShort, startVerdict, startOf, stepVerdict, stepOf}
+use Rattle.writes.specs.declared.Outcome.{Outcome}
+use Rattle.writes.specs.Carry.{After, tick, closedBy}
+use Rattle.register.specs.Step.{wordAt, wordFor, splitFor}
+use Rattle.header.specs.Header.{isShort}
+use Rattle.register.specs.Calls.{startVerdict, startOf, stepVerdict, stepOf}
 use Rattle.promises.specs.Wrong
 
 -- our step at an input whose words are written out: all that it computes with
@@ -25,7 +29,7 @@ unfolding
     linkTo isTo bit isIn dropped leave sweep freeFrom lowest powerUpTo limitBroken sizeBroken busyBeyond headerDamaged doubles
     heldKey heldDummy unknownName bucketBeyond nodeBeyond bitDisagrees idleNotZero kindMisfit errandMisfit makingAstray sizeMisfit
     workerDamaged badLink heldFor notFound comes f1 placed l2 tb b4 i1 sz i8 i9 d4b d6 decidedAt decided wordAt wordFor splitFor
-    closed tick isShort stepVerdict stepOf pick
+    closedBy tick isShort stepVerdict stepOf pick
 ours = stepOf
 
 pub accepted : Wrong.Accepted

@@ -10,12 +10,12 @@ use Rattle.names.specs.Names.{I1, TB, B2, B4, F1, F2, F3, F4, L2, B8, D4A, D4B}
 use Rattle.names.specs.declared.Answer.{Answer}
 use Rattle.header.specs.declared.Header.{Header}
 use Rattle.header.specs.Header.{nodesOf, dummiesOf}
-use Rattle.moves.specs.declared.Effect.{Effect}
-use Rattle.moves.specs.declared.Move.{Move}
-use Rattle.moves.specs.declared.Move.the-variants.{Damaged, Going, Ended}
+use Rattle.acts.specs.declared.Effect.{Effect}
+use Rattle.acts.specs.declared.Move.{Move}
+use Rattle.acts.specs.declared.Move.the-variants.{Damaged, Going, Ended}
 use Rattle.moves.specs.Moves.{heldFor}
 use Rattle.register.specs.declared.Turn.{Turn}
-use Rattle.register.specs.Calls.{isShort}
+use Rattle.header.specs.Header.{isShort}
 
 -- ---- "A node has three 32-bit words: split key, link, standing"
 pub data Part : Type 0 where

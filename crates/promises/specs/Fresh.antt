@@ -7,8 +7,8 @@ use Rattle.words.specs.Words.{STANDING, TAKEN, word, bucket}
 use Rattle.names.specs.declared.Answer.the-variants.{Going}
 use Rattle.header.specs.declared.Header.{Header}
 use Rattle.header.specs.Header.{nodesOf}
-use Rattle.register.specs.declared.Limits.{Limits}
-use Rattle.register.specs.Calls.{Kept, freshHeader, prepared}
+use Rattle.prepare.specs.declared.Limits.{Limits}
+use Rattle.prepare.specs.Prepare.{Kept, freshHeader, prepared}
 
 -- the fresh register k over the words ns and bs that were lent
 pub record Fresh (l : Limits) (ns bs : List ℕ) (k : Kept) : Type 0 where

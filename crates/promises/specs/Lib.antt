@@ -4,4 +4,5 @@ pub mod Unchanged
 pub mod Access
 pub mod OneAccess
 pub mod Refusals
+pub mod Tables
 pub mod Wrong

@@ -6,7 +6,8 @@ use lib.ListN.{length, getD}
 use Rattle.header.specs.Header.{nodesOf}
 use Rattle.moves.specs.Moves.{decided}
 use Rattle.register.specs.declared.Turn.{Turn}
-use Rattle.register.specs.Step.{After, wordFor, seenBy}
+use Rattle.writes.specs.Carry.{After}
+use Rattle.register.specs.Step.{wordFor, seenBy}
 use Rattle.register.specs.Calls.{stepVerdict, stepOf}
 use Rattle.promises.specs.Access.{Word, value, Reads, Agree, Long, Alike, SameStandings, Ends, Writes, Closes}
 

@@ -15,11 +15,12 @@ use Rattle.header.specs.declared.Header.{Header}
 use Rattle.header.specs.Header.{nodesOf, dummiesOf}
 use Rattle.header.specs.Rows.{LimitBroken, HeaderDamaged}
 use Rattle.record.specs.declared.Worker.{Worker}
-use Rattle.record.specs.Rows.{IsOneOf, KeyAbove, WorkerDamaged}
+use Rattle.faults.specs.Rows.{IsOneOf, KeyAbove, WorkerDamaged}
 use Rattle.moves.specs.Moves.{wantOf, heldFor}
-use Rattle.register.specs.declared.Limits.{Limits}
+use Rattle.prepare.specs.declared.Limits.{Limits}
 use Rattle.register.specs.declared.Turn.{Turn}
-use Rattle.register.specs.Calls.{freshHeader, prepared, startOf, stepOf}
+use Rattle.prepare.specs.Prepare.{freshHeader, prepared}
+use Rattle.register.specs.Calls.{startOf, stepOf}
 use Rattle.promises.specs.Access.{placeOf}
 
 -- ---- 11, 13, 17, 15 and 16
@@ -132,19 +133,19 @@ NoFreeKey t ns = (placeOf t ≡ I1) × NoKeyFree (t .header) ns
 abbrev pub NoFreeDummy : Turn → List ℕ → Type 0
 NoFreeDummy t ns = (placeOf t ≡ B4) × NoDummyFree (t .header) ns
 
--- ---- the orders of the checks
+-- ---- the orders of the checks; what 11 claims is handed in, since the records may be a lent table too
 -- "Preparing checks 10, then 11."
-abbrev pub prepareClaims : Limits → ℕ → ℕ → Claims Answer
-prepareClaims l nodes buckets =
+abbrev pub prepareClaims : Limits → Type 0 → Claims Answer
+prepareClaims l short =
     row (LimitBroken (freshHeader l)) Limit
-    (row (TooShort (freshHeader l) nodes buckets) Short
+    (row short Short
     done)
 
 -- a start checks "header range (12), 11, 13", "17 and 14", "the record's own faults (12), 15"
-abbrev pub startClaims : Turn → ℕ → ℕ → ℕ → ℕ → Claims Answer
-startClaims t kind key nodes buckets =
+abbrev pub startClaims : Turn → ℕ → ℕ → Type 0 → Claims Answer
+startClaims t kind key short =
     row (HeaderDamaged (t .header)) Damaged
-    (row (TooShort (t .header) nodes buckets) Short
+    (row short Short
     (row (NumberBeyond t) NoWorker
     (row (UnknownKind kind) NoKind
     (row (KeyAbove key) AboveLimit
@@ -153,10 +154,10 @@ startClaims t kind key nodes buckets =
     done))))))
 
 -- a step checks "header range (12), 11, 13", "the record's own faults (12), .. 16, then words read and missing node numbers (12), then 18 or 19"
-abbrev pub stepClaims : Turn → List ℕ → List ℕ → Claims Answer
-stepClaims t ns bs =
+abbrev pub stepClaims : Turn → List ℕ → List ℕ → Type 0 → Claims Answer
+stepClaims t ns bs short =
     row (HeaderDamaged (t .header)) Damaged
-    (row (TooShort (t .header) (length ns) (length bs)) Short
+    (row short Short
     (row (NumberBeyond t) NoWorker
     (row (WorkerDamaged (t .header) (t .number) (t .worker)) Damaged
     (row (Idle t) IsIdle
@@ -169,14 +170,14 @@ stepClaims t ns bs =
 abbrev pub PrepareExactly : Type 0
 PrepareExactly =
     (l : Limits) (h : Header) (ns bs : List ℕ) (a : Answer) → 10 ≤ numberOf a
-    → (prepared l h ns bs .out .answer ≡ a) ↔ RefusedBy (prepareClaims l (length ns) (length bs)) a
+    → (prepared l h ns bs .out .answer ≡ a) ↔ RefusedBy (prepareClaims l (TooShort (freshHeader l) (length ns) (length bs))) a
 
 abbrev pub StartExactly : Type 0
 StartExactly =
     (t : Turn) (kind key nodes buckets : ℕ) (a : Answer) → 10 ≤ numberOf a
-    → (startOf t kind key nodes buckets .answer ≡ a) ↔ RefusedBy (startClaims t kind key nodes buckets) a
+    → (startOf t kind key nodes buckets .answer ≡ a) ↔ RefusedBy (startClaims t kind key (TooShort (t .header) nodes buckets)) a
 
 abbrev pub StepExactly : Type 0
 StepExactly =
     (t : Turn) (ns bs : List ℕ) (a : Answer) → 10 ≤ numberOf a
-    → (stepOf t ns bs .out .answer ≡ a) ↔ RefusedBy (stepClaims t ns bs) a
+    → (stepOf t ns bs .out .answer ≡ a) ↔ RefusedBy (stepClaims t ns bs (TooShort (t .header) (length ns) (length bs))) a

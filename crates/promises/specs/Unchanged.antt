@@ -5,11 +5,12 @@ use mathlib.Core.Path.{_≡_}
 use Rattle.names.specs.declared.Answer.{Answer}
 use Rattle.names.specs.Names.{numberOf}
 use Rattle.header.specs.declared.Header.{Header}
-use Rattle.register.specs.declared.Limits.{Limits}
+use Rattle.prepare.specs.declared.Limits.{Limits}
 use Rattle.register.specs.declared.Turn.{Turn}
-use Rattle.register.specs.declared.Outcome.{Outcome}
-use Rattle.register.specs.Step.{After}
-use Rattle.register.specs.Calls.{Kept, prepared, startOf, stepOf}
+use Rattle.writes.specs.declared.Outcome.{Outcome}
+use Rattle.writes.specs.Carry.{After}
+use Rattle.prepare.specs.Prepare.{Kept, prepared}
+use Rattle.register.specs.Calls.{startOf, stepOf}
 
 -- a refusal from 10 to 17: 18 and 19 end the operation
 pub record Refusal (a : Answer) : Type 0 where

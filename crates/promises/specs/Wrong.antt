@@ -16,16 +16,17 @@ use Rattle.record.specs.declared.Worker.{Worker}
 use Rattle.record.specs.Fields.{to, withSteps}
 use Rattle.record.specs.Worker.{fresh, idle}
 use Rattle.moves.specs.declared.Seen.{Seen}
-use Rattle.moves.specs.declared.Effect.{Effect}
-use Rattle.moves.specs.declared.Effect.the-variants.{Nothing, Take, Free, Aim, Place, Mark, Unlink, Store, Count, Size}
-use Rattle.moves.specs.declared.Move.{Move}
-use Rattle.moves.specs.declared.Move.the-variants.{Damaged, Going, Ended}
+use Rattle.acts.specs.declared.Effect.{Effect}
+use Rattle.acts.specs.declared.Effect.the-variants.{Nothing, Take, Free, Aim, Place, Mark, Unlink, Store, Count, Size}
+use Rattle.acts.specs.declared.Move.{Move}
+use Rattle.acts.specs.declared.Move.the-variants.{Damaged, Going, Ended}
 use Rattle.moves.specs.Moves.{on, decided}
 use Rattle.register.specs.declared.Turn.{Turn}
-use Rattle.register.specs.declared.Outcome.{Outcome}
-use Rattle.register.specs.declared.Verdict.{Verdict}
-use Rattle.register.specs.declared.Verdict.the-variants.{Pass, Refused}
-use Rattle.register.specs.Step.{After, after, refusedWith, wordFor, seenBy, tick, carried}
+use Rattle.writes.specs.declared.Outcome.{Outcome}
+use Rattle.names.specs.declared.Verdict.{Verdict}
+use Rattle.names.specs.declared.Verdict.the-variants.{Pass, Refused}
+use Rattle.writes.specs.Carry.{After, after, tick}
+use Rattle.register.specs.Step.{refusedWith, wordFor, seenBy, carried}
 use Rattle.register.specs.Calls.{startOf, stepVerdict, stepOf}
 use Rattle.promises.specs.Access.{placeOf}
 

@@ -1,3 +1,1 @@
-pub mod Idle
-pub mod Rows
 pub mod Same

@@ -1,17 +1,13 @@
--- The worker's record: the idle one, the one that starts, what it holds, and its faults row by row.
-use Prim.Native.Nat.{ℕ, _+_}
-use mathlib.Core.Bool.{Bool, true, false, not, _&&_, _||_}
-use lib.Dec.{leb, ltb, eqb}
+-- The worker's record: a fresh one, the idle one, the one that starts, and what a record holds.
+use Prim.Native.Nat.{ℕ}
+use mathlib.Core.Bool.{Bool, false, not, _&&_}
+use lib.Dec.{leb, eqb}
 use Rattle.choice.specs.Choice.{pick}
-use Rattle.split.specs.Split.{onPath}
-use Rattle.sets.specs.Sets.{isIn}
-use Rattle.names.specs.Names.{IDLE, I1, SZ, B2, B4, F1, L2, B8, I8, I9, I10, D4A, D6, KEY, DUMMY, EXTRA, INSERT, FIND, DELETE, KEY-LIMIT}
-use Rattle.header.specs.Header.{nodesOf, powerUpTo}
-use Rattle.header.specs.declared.Header.{Header}
+use Rattle.names.specs.Names.{IDLE, I1, SZ, F1, L2, B8, KEY, DUMMY, EXTRA, INSERT}
 use Rattle.record.specs.declared.Worker.{Worker}
 use Rattle.record.specs.declared.Held.{Held}
 
--- a busy record of this place, kind and key, all else 0
+-- a record of this place, kind and key, all else 0
 abbrev pub fresh : ℕ → ℕ → ℕ → Worker
 fresh place kind key = record { place = place; errand = KEY; kind = kind; key = key; wanted = 0; making = 0; size = 0; start = 0; prev = 0; cur = 0; next = 0; marked = false; held = 0; dummy = 0; steps = 0 }
 
@@ -36,51 +32,3 @@ heldDummy x = pick (within F1 L2 (x .place) && eqb (x .errand) DUMMY) (x .dummy)
 
 abbrev pub holds : Worker → Held
 holds x = record { key = heldKey x; dummy = heldDummy x }
-
--- ---- the record's own faults, a row each
--- "the record has an unknown place, errand or kind": a busy record's kind is 1, 2 or 3
-unfoldable pub unknownName : Worker → Bool
-unknownName x = ltb D6 (x .place) || ltb EXTRA (x .errand) || ltb DELETE (x .kind) || (eqb (x .kind) 0 && not (eqb (x .place) IDLE))
-
--- "a key above the limit"
-abbrev pub keyAbove : ℕ → Bool
-keyAbove key = ltb KEY-LIMIT key
-
--- "a bucket at M or above"
-unfoldable pub bucketBeyond : Header → Worker → Bool
-bucketBeyond h x = leb (h .m) (x .wanted) || leb (h .m) (x .making)
-
--- "a node number above N"
-unfoldable pub nodeBeyond : ℕ → Worker → Bool
-nodeBeyond n x = ltb n (x .start) || ltb n (x .prev) || ltb n (x .cur) || ltb n (x .next) || ltb n (x .held) || ltb n (x .dummy)
-
--- "or disagrees with its busy bit"
-unfoldable pub bitDisagrees : Header → ℕ → Worker → Bool
-bitDisagrees h w x = (isIn w (h .busy) && eqb (x .place) IDLE) || (not (isIn w (h .busy)) && not (eqb (x .place) IDLE))
-
--- "an idle record's other fields must be 0"
-unfoldable pub idleNotZero : Worker → Bool
-idleNotZero x = eqb (x .place) IDLE && (ltb 0 (x .errand) || ltb 0 (x .kind) || ltb 0 (x .key) || ltb 0 (x .wanted) || ltb 0 (x .making) || ltb 0 (x .size) || ltb 0 (x .start) || ltb 0 (x .prev) || ltb 0 (x .cur) || ltb 0 (x .next) || x .marked || ltb 0 (x .held) || ltb 0 (x .dummy) || ltb 0 (x .steps))
-
--- "I-steps need insert, D-steps delete"
-unfoldable pub kindMisfit : Worker → Bool
-kindMisfit x = ((eqb (x .place) I1 || within I8 I10 (x .place)) && not (eqb (x .kind) INSERT)) || (within D4A D6 (x .place) && not (eqb (x .kind) DELETE))
-
--- "L2 a dummy or an insert, the extra search a delete"
-unfoldable pub errandMisfit : Worker → Bool
-errandMisfit x =
-    (eqb (x .place) L2 && not (eqb (x .errand) DUMMY || (eqb (x .errand) KEY && eqb (x .kind) INSERT)))
-    || (within F1 L2 (x .place) && eqb (x .errand) EXTRA && not (eqb (x .kind) DELETE))
-
--- "the bucket being made at B2, B4 or B8 isn't a non-zero one on the wanted bucket's path"
-unfoldable pub makingAstray : Worker → Bool
-makingAstray x = (eqb (x .place) B2 || eqb (x .place) B4 || eqb (x .place) B8) && (eqb (x .making) 0 || not (onPath (x .wanted) (x .making)))
-
--- "a size remembered for I9 or I10 isn't a power of two from 2 to M (for I10, below M)"
-unfoldable pub sizeMisfit : Header → Worker → Bool
-sizeMisfit h x = within I9 I10 (x .place) && (not (powerUpTo (h .m) (x .size)) || (eqb (x .place) I10 && leb (h .m) (x .size)))
-
-unfoldable pub workerDamaged : Header → ℕ → Worker → Bool
-workerDamaged h w x =
-    unknownName x || keyAbove (x .key) || bucketBeyond h x || nodeBeyond (nodesOf h) x || bitDisagrees h w x
-    || idleNotZero x || kindMisfit x || errandMisfit x || makingAstray x || sizeMisfit h x

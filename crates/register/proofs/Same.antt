@@ -5,22 +5,11 @@ use contract.Lifetimes.{Lfts}
 use denote.Triple.Clauses.{AtExit}
 use denote.Ref.{now}
 use borrow.Fn.Kinds.{Dens, resT, endedOf}
-use Rattle.register.specs.Calls.{Kept}
-use Rattle.register.specs.Step.{After}
-use Rattle.register.proofs.Limits.prepare.Reads as prepare
-use Rattle.register.proofs.Limits.prepare.Kinds as prepare-kinds
+use Rattle.writes.specs.Carry.{After}
 use Rattle.register.proofs.Turn.start.Reads as start
 use Rattle.register.proofs.Turn.start.Kinds as start-kinds
 use Rattle.register.proofs.Turn.step.Reads as step
 use Rattle.register.proofs.Turn.step.Kinds as step-kinds
-
--- two prepared registers that meet the contract on the same arguments: the same answer, header, node words and bucket words
-pub prepare-same : (κs : Lfts 2) (a : Dens κs prepare-kinds.ps) (x y : resT prepare-kinds.r κs .Denot) (e f : AtExit (endedOf 2 prepare-kinds.ps prepare-kinds.r) κs)
-    → prepare.Post κs a x e → prepare.Post κs a y f
-    → (x ≡ y) × (now (e .1 .1 .0) ≡ now (f .1 .1 .0)) × (now (e .1 .1 .1 .0) ≡ now (f .1 .1 .1 .0))
-prepare-same κs a x y e f p q =
-    let same = p ∙ sym q in
-    (ap (λ (k : Kept). k .out) same, ap (λ (k : Kept). k .nodes) same, ap (λ (k : Kept). k .buckets) same)
 
 -- two started operations: the same answer, steps, header and record; a start is lent its tables to read
 pub start-same : (κs : Lfts 2) (a : Dens κs start-kinds.ps) (x y : resT start-kinds.r κs .Denot) (e f : AtExit (endedOf 2 start-kinds.ps start-kinds.r) κs)

@@ -1,68 +1,24 @@
 -- The calls: each a table of refusals in the scope paper's order, a row each, and what is done where no row holds.
-use Prim.Native.Nat.{ℕ, _+_, _*_}
-use mathlib.Core.Bool.{Bool, not, _||_}
+use Prim.Native.Nat.{ℕ}
+use mathlib.Core.Bool.{not, _||_}
 use mathlib.Core.List.{List, [], _∷_}
 use lib.Dec.{ltb, leb, eqb}
 use lib.ListN.{length}
-use Rattle.choice.specs.Table.{Row, firstOf}
-use Rattle.words.specs.Words.{STANDING, TAKEN, put, store}
-use Rattle.scans.specs.Scans.{cleared}
+use Rattle.choice.specs.Table.{firstOf}
 use Rattle.sets.specs.Sets.{raised}
 use Rattle.names.specs.Names.{IDLE, INSERT, DELETE, KEY-LIMIT}
-use Rattle.names.specs.declared.Answer.{Answer}
-use Rattle.names.specs.declared.Answer.the-variants.{Going, Limit, Short, Damaged, NoWorker, KeyAbove, IsBusy, IsIdle, NoKind}
-use Rattle.header.specs.declared.Header.{Header}
-use Rattle.header.specs.Header.{nodesOf, limitBroken, headerDamaged, busied}
-use Rattle.record.specs.Worker.{begun, workerDamaged}
+use Rattle.names.specs.declared.Answer.the-variants.{Going, Short, Damaged, NoWorker, KeyAbove, IsBusy, IsIdle, NoKind}
+use Rattle.names.specs.declared.Verdict.{Verdict}
+use Rattle.names.specs.declared.Verdict.the-variants.{Pass, Refused}
+use Rattle.names.specs.Verdicts.{refuses}
+use Rattle.header.specs.Header.{headerDamaged, isShort, busied}
+use Rattle.record.specs.Worker.{begun}
+use Rattle.faults.specs.Faults.{workerDamaged}
 use Rattle.moves.specs.Moves.{decided}
-use Rattle.register.specs.declared.Limits.{Limits}
-use Rattle.register.specs.declared.Prepared.{Prepared}
+use Rattle.writes.specs.declared.Outcome.{Outcome}
+use Rattle.writes.specs.Carry.{After, after}
 use Rattle.register.specs.declared.Turn.{Turn}
-use Rattle.register.specs.declared.Outcome.{Outcome}
-use Rattle.register.specs.declared.Verdict.{Verdict}
-use Rattle.register.specs.declared.Verdict.the-variants.{Pass, Refused}
-use Rattle.register.specs.Step.{After, after, refusedWith, seenBy, carried}
-
--- 11: fewer than 3N node words or M bucket words
-unfoldable pub isShort : Header → ℕ → ℕ → Bool
-isShort h nodes buckets = ltb nodes (nodesOf h * 3) || ltb buckets (h .m)
-
--- a row of refusals
-abbrev pub refuses : Answer → Bool → Row Verdict
-refuses a t = record { test = t; says = Refused a }
-
--- ---- preparing: 10, then 11
--- size 2, count 0, nobody busy
-abbrev pub freshHeader : Limits → Header
-freshHeader l = record { m = l .m; k = l .k; w = l .w; l = l .l; size = 2; count = 0; busy = 0 }
-
-unfoldable pub prepareVerdict : Limits → ℕ → ℕ → Verdict
-prepareVerdict l nodes buckets =
-    firstOf
-    (refuses Limit (limitBroken (freshHeader l))
-    ∷ refuses Short (isShort (freshHeader l) nodes buckets)
-    ∷ [])
-    Pass
-
--- what preparing leaves: what it hands back, and the two lent tables
-pub record Kept : Type 0 where
-  pub out : Prepared
-  pub nodes : List ℕ
-  pub buckets : List ℕ
-
-abbrev pub kept : Prepared → List ℕ → List ℕ → Kept
-kept o ns bs = record { out = o; nodes = ns; buckets = bs }
-
--- all node words 0 but node 1, which is taken; bucket 0 holds 1, the others 0; the words past these as they were
-abbrev pub preparedBy : Limits → Header → List ℕ → List ℕ → Verdict → Kept
-preparedBy l h ns bs (Refused a) = kept (record { answer = a; header = h }) ns bs
-preparedBy l h ns bs Pass =
-    kept (record { answer = Going; header = freshHeader l })
-    (put (cleared (nodesOf (freshHeader l) * 3) ns) 1 STANDING TAKEN)
-    (store (cleared (l .m) bs) 0 1)
-
-unfoldable pub prepared : Limits → Header → List ℕ → List ℕ → Kept
-prepared l h ns bs = preparedBy l h ns bs (prepareVerdict l (length ns) (length bs))
+use Rattle.register.specs.Step.{refusedWith, seenBy, carried}
 
 -- ---- what a start and a step check first: 12, 11, 13
 unfoldable pub callVerdict : Turn → ℕ → ℕ → Verdict

@@ -1,2 +1,4 @@
 pub mod Step
 pub mod Calls
+pub mod Chain
+pub mod Events

@@ -2,17 +2,17 @@
 -- Assumes nothing.
 use mathlib.Core.Path.{_≡_, refl, sym, ap, _∙_}
 use mathlib.Core.Logic.{_≢_}
-use mathlib.Core.Bool.{true, false}
+use mathlib.Core.Bool.{Bool, true, false, false≢true, _&&_}
 use mathlib.Core.List.{List, [], _∷_}
-use Prim.Native.Nat.{ℕ, zero, suc, _+_, _-_, _*_, _/_, _≤_, _<_}
-use native.Mathlib.Nat.{mod-eq-of-lt}
+use Prim.Native.Nat.{ℕ, zero, suc, _+_, _-_, _*_, _/_, _≤_, _<_, min}
+use native.Mathlib.Nat.{mod-eq-of-lt, mul-comm, add-zero, add-suc}
 use native.Mathlib.Numerals.{add-one}
 use native.Mathlib.Decide.{ℕ-discrete}
 use native.Mathlib.Omega.{arith}
-use borrow.Author.Tests.{eq-eqb, ne-eqb, eqb-true, eqb-false, le-leb, lt-leb}
-use lib.Dec.{eqb, leb}
+use borrow.Author.Tests.{eq-eqb, ne-eqb, eqb-true, eqb-false, le-leb, lt-leb, lt-ltb, leb-true, leb-false}
+use lib.Dec.{eqb, leb, ltb}
 use lib.ListN.{length, getD, set, length-set}
-use lib.Seq.{getD-set-same, getD-set-other}
+use lib.Seq.{getD-set-same, getD-set-other, set-getD, set-out}
 use Rattle.choice.specs.Choice.{pick}
 use Rattle.choice.proofs.Auto.{pick-true, pick-false}
 use Rattle.choice.proofs.Cases.{by-eq, both}
@@ -51,10 +51,60 @@ sweep-suc w n ns = rw (add-one n)
 pub sweep-turn : (w n : ℕ) (ns ms : List ℕ) (s t : ℕ) → ms ≡ sweep w n ns → s ≡ word ms (n + 1) STANDING → t ≡ leave w s → put ms (n + 1) STANDING t ≡ sweep w (n + 1) ns
 sweep-turn w n ns ms s t em es et = rw (et, es, em, sweep-suc w n ns)
 
+-- a standing that is no set, or the empty one, stays; another set loses the worker
+pub leave-stays : (w s : ℕ) → ltb 0 s && leb s LARGEST-SET ≡ false → leave w s ≡ s
+unfolding leave
+leave-stays w zero e = leave-zero w
+leave-stays w (suc s) e = pick-false _ _ _ (rw (lt-ltb 0 (suc s) (omega arith)) at e)
+
+pub leave-drops : (w s : ℕ) → ltb 0 s && leb s LARGEST-SET ≡ true → leave w s ≡ dropped w s
+unfolding leave
+leave-drops w zero e = absurd (false≢true e)
+leave-drops w (suc s) e = pick-true _ _ _ (rw (lt-ltb 0 (suc s) (omega arith)) at e)
+
+-- one turn by index: the standing of node i + 1 is word 3 i + 2
+module _ (w i : ℕ) (ns ms : List ℕ) (em : ms ≡ sweep w i ns) where
+  abbrev at : ℕ
+  at = i * 3 + 2
+
+  standing-at : getD ms at 0 ≡ word ms (i + 1) STANDING
+  unfolding word
+  standing-at = rw (add-one i, mul-comm i 3)
+
+  put-at-index : (v : ℕ) → put ms (i + 1) STANDING v ≡ set ms at v
+  unfolding put
+  put-at-index v = rw (add-one i, mul-comm i 3)
+
+  pub turn-drops : ltb 0 (getD ms at 0) && leb (getD ms at 0) LARGEST-SET ≡ true → set ms at (dropped w (getD ms at 0)) ≡ sweep w (i + 1) ns
+  turn-drops t = sym (put-at-index _) ∙ sweep-turn w i ns ms (getD ms at 0) (dropped w (getD ms at 0)) em standing-at (sym (leave-drops w _ t))
+
+  pub turn-stays : ltb 0 (getD ms at 0) && leb (getD ms at 0) LARGEST-SET ≡ false → ms ≡ sweep w (i + 1) ns
+  turn-stays t = sym (set-getD ms at 0) ∙ sym (put-at-index _) ∙ sweep-turn w i ns ms (getD ms at 0) (getD ms at 0) em standing-at (sym (leave-stays w _ t))
+
 pub sweep-length : (w n : ℕ) (ns : List ℕ) → length (sweep w n ns) ≡ length ns
 unfolding sweep
 sweep-length w zero ns = refl
 sweep-length w (suc n) ns = put-length (sweep w n ns) (suc n) STANDING (leave w (word (sweep w n ns) (suc n) STANDING)) ∙ sweep-length w n ns
+
+-- nodes past the table change nothing
+sweep-out : (w n : ℕ) (ns : List ℕ) → length ns / 3 ≤ n → sweep w (suc n) ns ≡ sweep w n ns
+unfolding sweep put
+sweep-out w n ns h = set-out (sweep w n ns) (3 * n + 2) _ (omega (arith, sweep-length w n ns))
+
+sweep-stop : (w n d : ℕ) (ns : List ℕ) → length ns / 3 ≤ n → sweep w (n + d) ns ≡ sweep w n ns
+sweep-stop w n zero ns h = rw (add-zero n)
+sweep-stop w n (suc d) ns h = rw (add-suc n d) (sweep-out w (n + d) ns (omega arith) ∙ sweep-stop w n d ns h)
+
+pub sweep-lent : (w n : ℕ) (ns : List ℕ) → sweep w (min n (length ns / 3)) ns ≡ sweep w n ns
+sweep-lent w n ns = by (leb n (length ns / 3)) refl
+  where
+    by : (t : Bool) → leb n (length ns / 3) ≡ t → sweep w (min n (length ns / 3)) ns ≡ sweep w n ns
+    by true h = let e : min n (length ns / 3) ≡ n = omega (arith, leb-true n (length ns / 3) h) in rw e
+    by false h =
+        let l = leb-false n (length ns / 3) h in
+        let e : min n (length ns / 3) ≡ length ns / 3 = omega (arith, l) in
+        let f : length ns / 3 + (n - length ns / 3) ≡ n = omega (arith, l) in
+        rw e (sym (sweep-stop w (length ns / 3) (n - length ns / 3) ns (omega arith)) ∙ ap (λ (m : ℕ). sweep w m ns) f)
 
 -- a word that is no standing of the nodes 1 to n stays
 pub sweep-index : (w n : ℕ) (ns : List ℕ) (k : ℕ) → ((i : ℕ) → i < n → k ≢ 3 * i + 2) → getD (sweep w n ns) k 0 ≡ getD ns k 0

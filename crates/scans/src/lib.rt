@@ -1,7 +1,7 @@
 // The loops over the lent words: the lowest free node, the sweep of an ended operation, and the clearing of a new register.
 ghost use mathlib.Core.Path.{_≡_};
-ghost use Prim.Native.Nat.{_-_};
-ghost use Rattle.scans.specs.Scans.{leave, sweep, lowest, cleared, isKey, keysFrom};
+ghost use Prim.Native.Nat.{_-_, _/_, min};
+ghost use Rattle.scans.specs.Scans.{sweep, lowest, cleared, isKey, keysFrom};
 ghost use Rattle.choice.specs.Choice.{pick};
 
 // The number before n, and 0 before 0.
@@ -11,27 +11,30 @@ fn previous(n: u32) -> u32
     if n == 0 { 0 } else { n - 1 }
 }
 
-// A standing once worker w is waited for no more: a set of workers loses w, and a taken node stays taken.
-fn left(s: u32, w: u32) -> u32
-    ensures { λ r. ⌜ r ≡ leave w s ⌝ }
+// How many of n nodes have all their words in a table of that length.
+fn lent(n: u32, len: usize) -> u32
+    ensures { λ r. ⌜ r ≡ min n (len / 3) ⌝ }
 {
-    if s <= words::LARGEST_SET {
-        sets::without(s, w)
-    } else {
-        s
+    let whole = len / 3;
+    if (n as usize) <= whole {
+        return n;
     }
+    whole as u32
 }
 
-// Worker w is waited for no more at nodes 1 to n: each standing there that is a set loses w.
+// Worker w is waited for no more at nodes 1 to n: each standing there that is a set loses w. The empty set and a taken node stay unwritten.
 pub fn sweep(nodes: &mut [u32], n: u32, w: u32)
     ensures { λ _. ⌜ now (nodes .exit) ≡ sweep w n (now (nodes .entry)) ⌝ }
 {
+    let last = lent(n, nodes.len());
     let mut i: u32 = 0;
-    while i < n {
+    while i < last {
+        let at = (i as usize) * 3 + 2;
+        let s = nodes[at];
+        if (0 < s) & (s <= words::LARGEST_SET) {
+            nodes[at] = sets::without(s, w);
+        }
         i += 1;
-        let s = words::word(&nodes[..], i, words::STANDING);
-        let t = left(s, w);
-        words::put(&mut nodes[..], i, words::STANDING, t);
     }
 }
 

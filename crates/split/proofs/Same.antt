@@ -12,8 +12,8 @@ use Rattle.split.proofs.on_path.Reads as on-path
 use Rattle.split.proofs.on_path.Kinds as on-path-kinds
 use Rattle.split.proofs.next_down.Reads as next-down
 use Rattle.split.proofs.next_down.Kinds as next-down-kinds
-use Rattle.split.proofs.power_of_two.Reads as power-of-two
-use Rattle.split.proofs.power_of_two.Kinds as power-of-two-kinds
+use Rattle.split.proofs.power_up_to.Reads as power-up-to
+use Rattle.split.proofs.power_up_to.Kinds as power-up-to-kinds
 
 pub regular-key-same : Determined 0 regular-key-kinds.ps regular-key-kinds.r regular-key.Post
 regular-key-same κs a x y e f p q = p ∙ sym q
@@ -30,5 +30,5 @@ on-path-same κs a x y e f p q = p ∙ sym q
 pub next-down-same : Determined 0 next-down-kinds.ps next-down-kinds.r next-down.Post
 next-down-same κs a x y e f p q = p ∙ sym q
 
-pub power-of-two-same : Determined 0 power-of-two-kinds.ps power-of-two-kinds.r power-of-two.Post
-power-of-two-same κs a x y e f p q = p ∙ sym q
+pub power-up-to-same : Determined 0 power-up-to-kinds.ps power-up-to-kinds.r power-up-to.Post
+power-up-to-same κs a x y e f p q = p ∙ sym q

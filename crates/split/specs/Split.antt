@@ -1,6 +1,6 @@
 -- Split order (figure 2): the keys by which the one list is kept in order, and the tree of the buckets.
 use Prim.Native.Nat.{ℕ, zero, suc, _+_, _*_, _/_, _%_, _^_}
-use mathlib.Core.Bool.{Bool, false, _||_}
+use mathlib.Core.Bool.{Bool, false, _&&_, _||_}
 use mathlib.Core.List.{List, [], _∷_}
 use lib.Dec.{leb, eqb}
 use Rattle.choice.specs.Choice.{pick}
@@ -71,3 +71,7 @@ powerBelow (suc k) x = eqb x (2 ^ k) || powerBelow k x
 -- is x a power of two, as the number of buckets always is?
 unfoldable pub powerOfTwo : ℕ → Bool
 powerOfTwo x = powerBelow 32 x
+
+-- x is a power of two from 2 to `most`
+unfoldable pub powerUpTo : ℕ → ℕ → Bool
+powerUpTo most x = leb 2 x && leb x most && powerOfTwo x

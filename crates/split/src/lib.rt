@@ -1,6 +1,6 @@
 // Split order (figure 2): the keys by which the one list is kept in order, and the tree of the buckets.
 ghost use mathlib.Core.Path.{_≡_};
-ghost use Rattle.split.specs.Split.{reverse, regular, dummy, parentOf, onPath, nextDown, powerOfTwo};
+ghost use Rattle.split.specs.Split.{reverse, regular, dummy, parentOf, onPath, nextDown, powerOfTwo, powerUpTo};
 
 // The 32 bits of x in reverse, lowest bit first: the order in which recursive split-ordering compares keys.
 fn reverse(x: u32) -> u32
@@ -69,12 +69,19 @@ pub fn next_down(bucket: u32, making: u32) -> u32
     next_down(p, making)
 }
 
-// Is x a power of two, as the number of buckets always is? Then it has one set bit, so its parent is 0.
-pub fn power_of_two(x: u32) -> bool
+// Is x a power of two, as the number of buckets always is? Those divide the greatest power of a word, and nothing else does.
+fn power_of_two(x: u32) -> bool
     ensures { λ r. ⌜ r ≡ powerOfTwo x ⌝ }
 {
     if x == 0 {
         return false;
     }
-    parent(x) == 0
+    2147483648 % x == 0
+}
+
+// x is a power of two from 2 to `most`.
+pub fn power_up_to(most: u32, x: u32) -> bool
+    ensures { λ r. ⌜ r ≡ powerUpTo most x ⌝ }
+{
+    (2 <= x) & (x <= most) & power_of_two(x)
 }

@@ -10,10 +10,6 @@ use Rattle.words.proofs.word.Reads as word
 use Rattle.words.proofs.word.Kinds as word-kinds
 use Rattle.words.proofs.bucket.Reads as bucket
 use Rattle.words.proofs.bucket.Kinds as bucket-kinds
-use Rattle.words.proofs.link_to.Reads as link-to
-use Rattle.words.proofs.link_to.Kinds as link-to-kinds
-use Rattle.words.proofs.is_to.Reads as is-to
-use Rattle.words.proofs.is_to.Kinds as is-to-kinds
 use Rattle.words.proofs.put.Reads as put
 use Rattle.words.proofs.put.Kinds as put-kinds
 use Rattle.words.proofs.store.Reads as store
@@ -24,12 +20,6 @@ word-same κs a x y e f p q = p ∙ sym q
 
 pub bucket-same : Determined 1 bucket-kinds.ps bucket-kinds.r bucket.Post
 bucket-same κs a x y e f p q = p ∙ sym q
-
-pub link-to-same : Determined 0 link-to-kinds.ps link-to-kinds.r link-to.Post
-link-to-same κs a x y e f p q = p ∙ sym q
-
-pub is-to-same : Determined 0 is-to-kinds.ps is-to-kinds.r is-to.Post
-is-to-same κs a x y e f p q = p ∙ sym q
 
 pub put-same : (κs : Lfts 1) (a : Dens κs put-kinds.ps) (x y : resT put-kinds.r κs .Denot) (e f : AtExit (endedOf 1 put-kinds.ps put-kinds.r) κs)
     → put.Post κs a x e → put.Post κs a y f → now (e .0) ≡ now (f .0)

@@ -2,7 +2,7 @@
 ghost use mathlib.Core.Path.{_≡_};
 ghost use Prim.Native.Nat.{_+_, _*_};
 ghost use lib.ListN.{getD, set};
-ghost use Rattle.words.specs.Words.{word, put, bucket, store, linkWord, linkTo, isTo};
+ghost use Rattle.words.specs.Words.{word, put, bucket, store};
 
 // The three words of a node.
 pub const SPLIT_KEY: u32 = 0;
@@ -72,29 +72,4 @@ pub fn store(buckets: &mut [u32], b: u32, v: u32)
     ensures { λ _. ⌜ now (buckets .exit) ≡ store (now (buckets .entry)) b v ⌝ }
 {
     keep(buckets, b as usize, v)
-}
-
-// A link as one word: twice the number of the next node, and the mark. What passes 32 bits is cut.
-fn link_word(next: u32, mark: u32) -> u32
-    ensures { λ r. ⌜ r ≡ linkWord next mark ⌝ }
-{
-    (((next as u64) * 2 + (mark as u64)) % 4294967296) as u32
-}
-
-// The link to node next, marked or not.
-pub fn link_to(next: u32, marked: bool) -> u32
-    ensures { λ r. ⌜ r ≡ linkTo next marked ⌝ }
-{
-    if marked {
-        link_word(next, 1)
-    } else {
-        link_word(next, 0)
-    }
-}
-
-// The link word is (0, n): unmarked, with n its next node. Compared in 64 bits, so that no number is cut.
-pub fn is_to(link: u32, n: u32) -> bool
-    ensures { λ r. ⌜ r ≡ isTo link n ⌝ }
-{
-    (link as u64) == (n as u64) * 2
 }

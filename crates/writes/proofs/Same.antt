@@ -1,19 +1,18 @@
--- Each contract says what is handed back, or what both lent tables hold at exit, as one definition of the arguments, so two runs that meet it agree.
+-- The contract says what is handed back and what both lent tables hold at exit as one definition of what was handed in, so two runs that meet it agree in all of it.
 -- Assumes nothing.
-use mathlib.Core.Path.{_≡_, sym, _∙_}
+use mathlib.Core.Path.{_≡_, sym, ap, _∙_}
 use contract.Lifetimes.{Lfts}
 use denote.Triple.Clauses.{AtExit}
 use denote.Ref.{now}
 use borrow.Fn.Kinds.{Dens, resT, endedOf}
-use Rattle.choice.proofs.Same.{Determined}
-use Rattle.writes.proofs.write.Reads as write
-use Rattle.writes.proofs.write.Kinds as write-kinds
-use Rattle.writes.proofs.written.Reads as written
-use Rattle.writes.proofs.written.Kinds as written-kinds
+use Rattle.writes.specs.Carry.{After}
+use Rattle.writes.proofs.carry.Reads as carry
+use Rattle.writes.proofs.carry.Kinds as carry-kinds
 
-pub write-same : (κs : Lfts 2) (a : Dens κs write-kinds.ps) (x y : resT write-kinds.r κs .Denot) (e f : AtExit (endedOf 2 write-kinds.ps write-kinds.r) κs)
-    → write.Post κs a x e → write.Post κs a y f → (now (e .1 .0) ≡ now (f .1 .0)) × (now (e .1 .1 .0) ≡ now (f .1 .1 .0))
-write-same κs a x y e f p q = (p .0 ∙ sym (q .0), p .1 ∙ sym (q .1))
-
-pub written-same : Determined 0 written-kinds.ps written-kinds.r written.Post
-written-same κs a x y e f p q = p ∙ sym q
+-- two decisions carried out: the same answer, steps, header, record, node words and bucket words
+pub carry-same : (κs : Lfts 2) (a : Dens κs carry-kinds.ps) (x y : resT carry-kinds.r κs .Denot) (e f : AtExit (endedOf 2 carry-kinds.ps carry-kinds.r) κs)
+    → carry.Post κs a x e → carry.Post κs a y f
+    → (x ≡ y) × (now (e .1 .1 .1 .1 .1 .0) ≡ now (f .1 .1 .1 .1 .1 .0)) × (now (e .1 .1 .1 .1 .1 .1 .0) ≡ now (f .1 .1 .1 .1 .1 .1 .0))
+carry-same κs a x y e f p q =
+    let same = p ∙ sym q in
+    (ap (λ (k : After). k .out) same, ap (λ (k : After). k .nodes) same, ap (λ (k : After). k .buckets) same)

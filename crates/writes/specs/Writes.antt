@@ -5,8 +5,8 @@ use mathlib.Core.List.{List}
 use Rattle.words.specs.Words.{SPLIT-KEY, LINK, STANDING, TAKEN, put, store, linkTo}
 use Rattle.header.specs.declared.Header.{Header}
 use Rattle.header.specs.Header.{sized, counted}
-use Rattle.moves.specs.declared.Effect.{Effect}
-use Rattle.moves.specs.declared.Effect.the-variants.{Nothing, Take, Free, Aim, Place, Mark, Unlink, Store, Count, Size}
+use Rattle.acts.specs.declared.Effect.{Effect}
+use Rattle.acts.specs.declared.Effect.the-variants.{Nothing, Take, Free, Aim, Place, Mark, Unlink, Store, Count, Size}
 
 abbrev pub nodesAfter : Effect → List ℕ → List ℕ
 nodesAfter Nothing ns = ns

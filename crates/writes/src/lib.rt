@@ -1,11 +1,50 @@
-// What the write of a step leaves: in the lent tables, and in the header.
+// A decision carried out: what a step's write leaves in the lent tables and in the header, and at an ended answer the operation closed.
 ghost use mathlib.Core.Path.{_≡_};
+ghost use Rattle.words.specs.Words.{LINK, put, linkWord, linkTo};
 ghost use Rattle.writes.specs.Writes.{nodesAfter, bucketsAfter, headerAfter};
+ghost use Rattle.writes.specs.Carry.{after, handedBack, tick, going, closedBy, ending, carriedBy};
+use acts::Effect;
+use acts::Move;
 use header::Header;
-use moves::Effect;
+use names::Answer;
+use names::place;
+use record::Worker;
+
+// What a start or a step hands back; an ended answer gives the operation's steps.
+pub struct Outcome {
+    pub answer: Answer,
+    pub steps: u32,
+    pub header: Header,
+    pub worker: Worker,
+}
+
+// A link as one word: twice the number of the next node, and the mark. What passes 32 bits is cut.
+fn link_word(next: u32, mark: u32) -> u32
+    ensures { λ r. ⌜ r ≡ linkWord next mark ⌝ }
+{
+    (((next as u64) * 2 + (mark as u64)) % 4294967296) as u32
+}
+
+// The link to node next, marked or not.
+fn link_to(next: u32, marked: bool) -> u32
+    ensures { λ r. ⌜ r ≡ linkTo next marked ⌝ }
+{
+    if marked {
+        link_word(next, 1)
+    } else {
+        link_word(next, 0)
+    }
+}
+
+// Node n's link is to the next node, marked or not.
+fn aim(nodes: &mut [u32], n: u32, next: u32, marked: bool)
+    ensures { λ _. ⌜ now (nodes .exit) ≡ put (now (nodes .entry)) n LINK (linkTo next marked) ⌝ }
+{
+    words::put(nodes, n, words::LINK, link_to(next, marked));
+}
 
 // The write of a step, in the tables.
-pub fn write(effect: Effect, nodes: &mut [u32], buckets: &mut [u32])
+fn write(effect: Effect, nodes: &mut [u32], buckets: &mut [u32])
     ensures { λ _. ⌜ (now (nodes .exit) ≡ nodesAfter effect (now (nodes .entry))) × (now (buckets .exit) ≡ bucketsAfter effect (now (buckets .entry))) ⌝ }
 {
     match effect {
@@ -18,14 +57,14 @@ pub fn write(effect: Effect, nodes: &mut [u32], buckets: &mut [u32])
             words::put(nodes, node, words::STANDING, 0);
         }
         Effect::Aim { node, next } => {
-            words::put(nodes, node, words::LINK, words::link_to(next, false));
+            aim(nodes, node, next, false);
         }
         Effect::Place { node, next, prev } => {
-            words::put(nodes, node, words::LINK, words::link_to(next, false));
-            words::put(nodes, prev, words::LINK, words::link_to(node, false));
+            aim(nodes, node, next, false);
+            aim(nodes, prev, node, false);
         }
         Effect::Mark { node, next } => {
-            words::put(nodes, node, words::LINK, words::link_to(next, true));
+            aim(nodes, node, next, true);
         }
         Effect::Unlink {
             prev,
@@ -33,7 +72,7 @@ pub fn write(effect: Effect, nodes: &mut [u32], buckets: &mut [u32])
             node,
             busy,
         } => {
-            words::put(nodes, prev, words::LINK, words::link_to(next, false));
+            aim(nodes, prev, next, false);
             words::put(nodes, node, words::STANDING, busy);
         }
         Effect::Store { bucket, node } => {
@@ -45,7 +84,7 @@ pub fn write(effect: Effect, nodes: &mut [u32], buckets: &mut [u32])
 }
 
 // The write of a step, in the header.
-pub fn written(effect: Effect, header: Header) -> Header
+fn written(effect: Effect, header: Header) -> Header
     ensures { λ r. ⌜ r ≡ headerAfter effect header ⌝ }
 {
     let mut h = header;
@@ -75,5 +114,96 @@ pub fn written(effect: Effect, header: Header) -> Header
             busy: _,
         } => h,
         Effect::Store { bucket: _, node: _ } => h,
+    }
+}
+
+// One step more, up to the ceiling.
+fn tick(steps: u32) -> u32
+    ensures { λ r. ⌜ r ≡ tick steps ⌝ }
+{
+    if steps < names::CEILING {
+        return steps + 1;
+    }
+    steps
+}
+
+// Header and record as they came, with an answer that changes nothing.
+fn handed_back(answer: Answer, header: Header, worker: Worker) -> Outcome
+    ensures { λ r. ⌜ r ≡ handedBack answer header worker ⌝ }
+{
+    Outcome {
+        answer,
+        steps: 0,
+        header,
+        worker,
+    }
+}
+
+// The operation goes on: the step is counted in the record.
+fn going(worker: Worker, effect: Effect, header: Header) -> Outcome
+    ensures { λ r. ⌜ r ≡ going worker effect header ⌝ }
+{
+    let header = written(effect, header);
+    let mut worker = worker;
+    worker.steps = tick(worker.steps);
+    Outcome {
+        answer: Answer::Going,
+        steps: 0,
+        header,
+        worker,
+    }
+}
+
+// At an ended answer the nodes still held are free, and the worker's bit leaves each standing that is a set.
+fn close(last: u32, number: u32, worker: Worker, nodes: &mut [u32])
+    ensures { λ _. ⌜ now (nodes .exit) ≡ closedBy last number worker (now (nodes .entry)) ⌝ }
+{
+    let held = worker.holds();
+    words::put(nodes, held.key, words::STANDING, 0);
+    words::put(nodes, held.dummy, words::STANDING, 0);
+    scans::sweep(nodes, last, number);
+}
+
+// The record is idle, the busy bit is cleared, and the ending step is counted in.
+fn ending(number: u32, header: Header, steps: u32, answer: Answer, effect: Effect) -> Outcome
+    ensures { λ r. ⌜ r ≡ ending number header steps answer effect ⌝ }
+{
+    let mut header = written(effect, header);
+    header.busy = sets::without(header.busy, number);
+    let worker = Worker::fresh(place::IDLE, 0, 0);
+    Outcome {
+        answer,
+        steps: tick(steps),
+        header,
+        worker,
+    }
+}
+
+// A decision is carried out, in a register whose last node is `last`; damaged words change nothing.
+pub fn carry(
+    last: u32,
+    number: u32,
+    header: Header,
+    worker: Worker,
+    decision: Move,
+    nodes: &mut [u32],
+    buckets: &mut [u32],
+) -> Outcome
+    ensures { λ r. ⌜ after r (now (nodes .exit)) (now (buckets .exit)) ≡ carriedBy last number header worker decision (now (nodes .entry)) (now (buckets .entry)) ⌝ }
+{
+    match decision {
+        Move::Damaged => handed_back(Answer::Damaged, header, worker),
+        Move::Going {
+            worker: next,
+            effect,
+        } => {
+            write(effect, nodes, buckets);
+            going(next, effect, header)
+        }
+        Move::Ended { answer, effect } => {
+            write(effect, nodes, buckets);
+            close(last, number, worker, nodes);
+            ending(number, header, worker.steps, answer, effect)
+        }
     }
 }

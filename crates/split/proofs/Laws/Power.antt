@@ -1,15 +1,15 @@
--- A number is a power of two exactly if clearing its top set bit leaves 0.
+-- A number is a power of two exactly if it divides 2 ^ 31: a divisor of a power of two is one.
 -- Assumes nothing.
-use Prim.Native.Nat.{ℕ, zero, suc, _^_, _<_, _≤_}
+use Prim.Native.Nat.{ℕ, zero, suc, _+_, _-_, _*_, _/_, _%_, _^_, _<_, _≤_}
+use native.Mathlib.Nat.{pow-suc, mul-zero, mul-suc, zero-mul, one-mul, add-mul, mul-comm, mul-assoc, mul-left-comm, mod-add-div, mul-mod-right}
 use native.Mathlib.Omega.{arith}
-use mathlib.Core.Path.{_≡_, refl, sym, ap}
+use mathlib.Core.Path.{_≡_, refl, sym, ap, _∙_}
 use mathlib.Core.Bool.{Bool, true, false, _||_, or-true, true≢false}
 use mathlib.Core.Logic.{_↔_}
 use lib.Dec.{leb, eqb}
-use lib.Pow.{pow-lt, pow-mono}
+use lib.Pow.{pow-add, pow-mono}
 use borrow.Author.Tests.{leb-true, leb-false, eqb-true, eqb-false, eq-eqb}
-use Rattle.split.specs.Split.{parentOf, powerBelow, powerOfTwo}
-use Rattle.split.proofs.Laws.Parent.{parent-clears}
+use Rattle.split.specs.Split.{powerBelow, powerOfTwo}
 
 power-sound : (k x : ℕ) → powerBelow k x ≡ true → (i : ℕ) × (x ≡ 2 ^ i)
 unfolding powerBelow
@@ -51,9 +51,29 @@ top-bit (suc k) x h l = at (top-bit k x h) (leb (2 ^ k) x) refl
     at ih true e = (k, omega arith, leb-true (2 ^ k) x e, l)
     at ih false e = let r = ih (leb-false (2 ^ k) x e) in (r .0, omega arith, r .2, r .3)
 
-power-parent : (x i : ℕ) → x ≡ 2 ^ i → i < 32 → parentOf x ≡ 0
-power-parent x i e h =
-    omega (arith, parent-clears i x (omega arith) (omega (arith, pow-lt {i = i} {j = suc i} (omega arith))) h)
+-- a divisor of a power of two is one: the divisor or the quotient is even, and half of it does for the power before
+divisor : (k d q : ℕ) → d * q ≡ 2 ^ k → (i : ℕ) × (d ≡ 2 ^ i)
+divisor zero zero q e = absurd (omega (arith, zero-mul q))
+divisor zero (suc zero) q e = (0, refl)
+divisor zero (suc (suc d)) zero e = absurd (omega (arith, mul-zero (suc (suc d))))
+divisor zero (suc (suc d)) (suc q) e = absurd (omega (arith, mul-suc (suc (suc d)) q))
+divisor (suc k) d q e = by (λ c p. divisor k c p) (eqb (d % 2) 0) refl
+  where
+    whole : d * q ≡ 2 * 2 ^ k
+    whole = e ∙ pow-suc 2 k ∙ mul-comm (2 ^ k) 2
+
+    by : ((c p : ℕ) → c * p ≡ 2 ^ k → (i : ℕ) × (c ≡ 2 ^ i)) → (t : Bool) → eqb (d % 2) 0 ≡ t → (i : ℕ) × (d ≡ 2 ^ i)
+    by before true h =
+        let even : d ≡ 2 * (d / 2) = omega (arith, eqb-true (d % 2) 0 h) in
+        let half : d / 2 * q ≡ 2 ^ k = omega (arith, sym (mul-assoc 2 (d / 2) q) ∙ ap (λ (n : ℕ). n * q) (sym even) ∙ whole) in
+        let r = before (d / 2) q half in
+        (suc (r .0), omega (arith, even, r .1, pow-suc 2 (r .0) ∙ mul-comm (2 ^ r .0) 2))
+    by before false h =
+        let odd : d ≡ 2 * (d / 2) + 1 = omega (arith, eqb-false (d % 2) 0 h) in
+        let split : 2 * (d / 2 * q) + q ≡ 2 * 2 ^ k = ap (λ (n : ℕ). n + q) (sym (mul-assoc 2 (d / 2) q)) ∙ ap (λ (n : ℕ). 2 * (d / 2) * q + n) (sym (one-mul q)) ∙ sym (add-mul (2 * (d / 2)) 1 q) ∙ ap (λ (n : ℕ). n * q) (sym odd) ∙ whole in
+        let even : q ≡ 2 * (q / 2) = omega (arith, split) in
+        let half : d * (q / 2) ≡ 2 ^ k = omega (arith, mul-left-comm 2 d (q / 2) ∙ ap (λ (n : ℕ). d * n) (sym even) ∙ whole) in
+        before d (q / 2) half
 
 both-ways : (s t : Bool) → (s ≡ true → t ≡ true) → (t ≡ true → s ≡ true) → s ≡ t
 both-ways true t f g = sym (f refl)
@@ -61,19 +81,22 @@ both-ways false true f g = g refl
 both-ways false false f g = refl
 
 -- the test of `power_of_two`
-pub power-parent-zero : (x : ℕ) → 0 < x → x < 4294967296 → eqb (parentOf x) 0 ≡ powerOfTwo x
-power-parent-zero x h l = both-ways (eqb (parentOf x) 0) (powerOfTwo x) there back
+pub power-divides : (x : ℕ) → 0 < x → x < 4294967296 → eqb (2147483648 % x) 0 ≡ powerOfTwo x
+power-divides x h l = both-ways (eqb (2147483648 % x) 0) (powerOfTwo x) there back
   where
-    there : eqb (parentOf x) 0 ≡ true → powerOfTwo x ≡ true
+    there : eqb (2147483648 % x) 0 ≡ true → powerOfTwo x ≡ true
     there e =
-        let r = top-bit 32 x h l in
-        let z = eqb-true (parentOf x) 0 e in
-        power-means x l .1 (r .0, omega (arith, parent-clears (r .0) x (r .2) (r .3) (r .1)))
+        let z = eqb-true (2147483648 % x) 0 e in
+        power-means x l .1 (divisor 31 x (2147483648 / x) (omega (arith, z, mod-add-div 2147483648 x)))
 
-    back : powerOfTwo x ≡ true → eqb (parentOf x) 0 ≡ true
+    back : powerOfTwo x ≡ true → eqb (2147483648 % x) 0 ≡ true
     back e =
         let r = power-means x l .0 e in
-        eq-eqb (parentOf x) 0 (power-parent x (r .0) (r .1) (exponent-lt 32 (r .0) (rw (← r .1) l)))
+        let i = r .0 in
+        let below = exponent-lt 32 i (rw (← r .1) l) in
+        let whole : i + (31 - i) ≡ 31 = omega arith in
+        let is : 2147483648 ≡ x * 2 ^ (31 - i) = ap (λ (n : ℕ). 2 ^ n) (sym whole) ∙ pow-add 2 i (31 - i) ∙ ap (λ (n : ℕ). n * 2 ^ (31 - i)) (sym (r .1)) in
+        eq-eqb (2147483648 % x) 0 (ap (λ (n : ℕ). n % x) is ∙ mul-mod-right x (2 ^ (31 - i)))
 
 pub power-zero : (x : ℕ) → x ≡ 0 → powerOfTwo x ≡ false
 unfolding powerOfTwo powerBelow

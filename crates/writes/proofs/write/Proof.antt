@@ -1,6 +1,6 @@
 -- Each arm is its effect's own clause.
 -- Assumes nothing.
-use mathlib.Core.Path.{_≡_, refl, sym, _∙_}
+use mathlib.Core.Path.{refl}
 use borrow.Author.Needs.{needs}
 use Rattle.writes.proofs.write.Statement.{statement}
 use Rattle.writes.proofs.write.Tie as tie
@@ -26,47 +26,32 @@ put-requires-3 c κs = tt
 enum-known-effect-3 : tie.Need-enum-known-effect-3
 enum-known-effect-3 c = search needs
 
-link-to-requires : tie.Need-link-to-requires
-link-to-requires c κs = tt
-
-put-requires-4 : tie.Need-put-requires-4
-put-requires-4 c κs = tt
+aim-requires : tie.Need-aim-requires
+aim-requires c κs = tt
 
 enum-known-effect-4 : tie.Need-enum-known-effect-4
 enum-known-effect-4 c = search needs
 
-link-to-requires-2 : tie.Need-link-to-requires-2
-link-to-requires-2 c κs = tt
+aim-requires-2 : tie.Need-aim-requires-2
+aim-requires-2 c κs = tt
 
-put-requires-5 : tie.Need-put-requires-5
-put-requires-5 c κs = tt
-
-link-to-requires-3 : tie.Need-link-to-requires-3
-link-to-requires-3 c κs = tt
-
-put-requires-6 : tie.Need-put-requires-6
-put-requires-6 c κs = tt
+aim-requires-3 : tie.Need-aim-requires-3
+aim-requires-3 c κs = tt
 
 enum-known-effect-5 : tie.Need-enum-known-effect-5
 enum-known-effect-5 c = search needs
 
-link-to-requires-4 : tie.Need-link-to-requires-4
-link-to-requires-4 c κs = tt
-
-put-requires-7 : tie.Need-put-requires-7
-put-requires-7 c κs = tt
+aim-requires-4 : tie.Need-aim-requires-4
+aim-requires-4 c κs = tt
 
 enum-known-effect-6 : tie.Need-enum-known-effect-6
 enum-known-effect-6 c = search needs
 
-link-to-requires-5 : tie.Need-link-to-requires-5
-link-to-requires-5 c κs = tt
+aim-requires-5 : tie.Need-aim-requires-5
+aim-requires-5 c κs = tt
 
-put-requires-8 : tie.Need-put-requires-8
-put-requires-8 c κs = tt
-
-put-requires-9 : tie.Need-put-requires-9
-put-requires-9 c κs = tt
+put-requires-4 : tie.Need-put-requires-4
+put-requires-4 c κs = tt
 
 enum-known-effect-7 : tie.Need-enum-known-effect-7
 enum-known-effect-7 c = search needs
@@ -93,31 +78,31 @@ same-length-2 : tie.Need-same-length-2
 same-length-2 c = search needs
 
 returns-3 : tie.Need-returns-3
-returns-3 c = rw (c .before .before .before .before .before .effect2 .given .1) (rw (c .before .before .put3 .ensures), refl)
+returns-3 c = rw (c .before .before .before .before .before .effect2 .given .1) (c .before .before .put3 .ensures, refl)
 
 same-length-3 : tie.Need-same-length-3
 same-length-3 c = search needs
 
 returns-4 : tie.Need-returns-4
-returns-4 c = rw (c .before .before .before .before .before .before .effect3 .given .1) (rw (c .before .before .put4 .ensures, c .before .before .before .link-to .ensures), refl)
+returns-4 c = rw (c .before .before .before .before .before .effect3 .given .1) (c .before .before .aim .ensures, refl)
 
 same-length-4 : tie.Need-same-length-4
 same-length-4 c = search needs
 
 returns-5 : tie.Need-returns-5
-returns-5 c = rw (c .before .before .before .before .before .before .before .before .before .before .before .effect4 .given .1) (rw (c .before .before .put6 .ensures, c .before .before .before .link-to3 .ensures, c .before .before .before .before .before .before .before .put5 .ensures, c .before .before .before .before .before .before .before .before .link-to2 .ensures), refl)
+returns-5 c = rw (c .before .before .before .before .before .before .before .before .before .effect4 .given .1) (rw (c .before .before .aim3 .ensures, c .before .before .before .before .before .before .aim2 .ensures), refl)
 
 same-length-5 : tie.Need-same-length-5
 same-length-5 c = search needs
 
 returns-6 : tie.Need-returns-6
-returns-6 c = rw (c .before .before .before .before .before .before .effect5 .given .1) (rw (c .before .before .put7 .ensures, c .before .before .before .link-to4 .ensures), refl)
+returns-6 c = rw (c .before .before .before .before .before .effect5 .given .1) (c .before .before .aim4 .ensures, refl)
 
 same-length-6 : tie.Need-same-length-6
 same-length-6 c = search needs
 
 returns-7 : tie.Need-returns-7
-returns-7 c = rw (c .before .before .before .before .before .before .before .before .before .before .effect6 .given .1) (rw (c .before .before .put9 .ensures, c .before .before .before .before .before .before .put8 .ensures, c .before .before .before .before .before .before .before .link-to5 .ensures), refl)
+returns-7 c = rw (c .before .before .before .before .before .before .before .before .before .effect6 .given .1) (rw (c .before .before .put4 .ensures, c .before .before .before .before .before .before .aim5 .ensures), refl)
 
 same-length-7 : tie.Need-same-length-7
 same-length-7 c = search needs
@@ -142,20 +127,15 @@ write-spec =
     enum-known-effect-2
     put-requires-3
     enum-known-effect-3
-    link-to-requires
-    put-requires-4
+    aim-requires
     enum-known-effect-4
-    link-to-requires-2
-    put-requires-5
-    link-to-requires-3
-    put-requires-6
+    aim-requires-2
+    aim-requires-3
     enum-known-effect-5
-    link-to-requires-4
-    put-requires-7
+    aim-requires-4
     enum-known-effect-6
-    link-to-requires-5
-    put-requires-8
-    put-requires-9
+    aim-requires-5
+    put-requires-4
     enum-known-effect-7
     store-requires
     enum-told-2

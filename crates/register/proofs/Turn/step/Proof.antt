@@ -19,14 +19,11 @@ refused-requires c κs = tt
 enum-told : tie.Need-enum-told
 enum-told c = search needs
 
-look-requires : tie.Need-look-requires
-look-requires c κs = step-small _ _ _ (sym (c .before .before .before .before .step-verdict .ensures) ∙ c .before .before .enum-told .given .1)
+decision-requires : tie.Need-decision-requires
+decision-requires c κs = step-small _ _ _ (sym (c .before .before .before .before .step-verdict .ensures) ∙ c .before .before .enum-told .given .1)
 
-decide-requires : tie.Need-decide-requires
-decide-requires c κs = tt
-
-carry-requires : tie.Need-carry-requires
-carry-requires c κs = step-small _ _ _ (sym (c .before .before .before .before .before .before .before .before .step-verdict .ensures) ∙ c .before .before .before .before .before .before .enum-told .given .1)
+act-requires : tie.Need-act-requires
+act-requires c κs = step-small _ _ _ (sym (c .before .before .before .before .before .before .before .step-verdict .ensures) ∙ c .before .before .before .before .before .enum-told .given .1)
 
 returns : tie.Need-returns
 unfolding stepOf
@@ -40,7 +37,7 @@ same-length-2 c = search needs
 
 returns-2 : tie.Need-returns-2
 unfolding stepOf
-returns-2 c = rw (← c .before .before .before .before .before .before .before .before .before .before .before .before .before .step-verdict .ensures, c .before .before .before .before .before .before .before .before .before .before .before .enum-told .given .1) (c .before .before .before .before .carry .ensures ∙ rw (c .before .before .before .before .before .before .before .decide .ensures, c .before .before .before .before .before .before .before .before .look .ensures))
+returns-2 c = rw (← c .before .before .before .before .before .before .before .before .before .before .before .before .step-verdict .ensures, c .before .before .before .before .before .before .before .before .before .before .enum-told .given .1) (c .before .before .before .before .act .ensures ∙ rw (c .before .before .before .before .before .before .before .decision .ensures))
 
 pub step-spec : {M : Type 1} → statement M
 step-spec =
@@ -50,9 +47,8 @@ step-spec =
     enum-known-verdict
     refused-requires
     enum-told
-    look-requires
-    decide-requires
-    carry-requires
+    decision-requires
+    act-requires
     returns
     same-length
     same-length-2

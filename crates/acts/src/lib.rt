@@ -1,0 +1,60 @@
+// What a step can do: its one write to shared memory, and what becomes of the operation. The places decide it, the writes carry it out.
+use names::Answer;
+use record::Worker;
+
+// The write of one step, by what it does to shared memory.
+pub enum Effect {
+    Nothing,
+    // I1, B4: the node is taken, with its split key.
+    Take {
+        node: u32,
+        split: u32,
+    },
+    // The dummy that another worker made first is free.
+    Free {
+        node: u32,
+    },
+    // L2 failed: the held node's link is written all the same.
+    Aim {
+        node: u32,
+        next: u32,
+    },
+    // L2 done: the held node is on the chain, between prev and next.
+    Place {
+        node: u32,
+        next: u32,
+        prev: u32,
+    },
+    // D4a done: the node is marked.
+    Mark {
+        node: u32,
+        next: u32,
+    },
+    // F4, D4b done: the node is off the chain and waits for the busy workers.
+    Unlink {
+        prev: u32,
+        next: u32,
+        node: u32,
+        busy: u32,
+    },
+    // B8: the bucket is set.
+    Store {
+        bucket: u32,
+        node: u32,
+    },
+    // I9, D6: the shared count.
+    Count {
+        value: u32,
+    },
+    // I10: the size.
+    Size {
+        value: u32,
+    },
+}
+
+// What is decided: damaged words, or the record that goes on, or the answer that ends the operation, with the write.
+pub enum Move {
+    Damaged,
+    Going { worker: Worker, effect: Effect },
+    Ended { answer: Answer, effect: Effect },
+}

@@ -1,0 +1,3 @@
+pub mod Idle
+pub mod Rows
+pub mod Same

@@ -1,0 +1,21 @@
+-- The size is asked only at I9 and I10; elsewhere the row is false.
+-- Assumes nothing.
+use Rattle.faults.specs.Faults.{sizeMisfit}
+use mathlib.Core.Path.{_≡_, refl, sym, ap, _∙_}
+use Rattle.choice.proofs.Auto.{then-is, else-is, pick-true, pick-false}
+use Rattle.faults.proofs.size_misfit.Statement.{statement}
+use Rattle.faults.proofs.size_misfit.Tie as tie
+
+power-up-to-requires : tie.Need-power-up-to-requires
+power-up-to-requires c κs = tt
+
+returns : tie.Need-returns
+unfolding sizeMisfit
+returns c = rw (c .before .before .before .before .if1 .taken, c .before .before .before .power-up-to .ensures)
+
+returns-2 : tie.Need-returns-2
+unfolding sizeMisfit
+returns-2 c = rw (c .if1 .left)
+
+pub size-misfit-spec : {M : Type 1} → statement M
+size-misfit-spec = tie.close (tie.spec power-up-to-requires returns returns-2)

@@ -1,0 +1,124 @@
+// The faults of a worker's record, row by row of the scope paper's "12 is given exactly when".
+ghost use mathlib.Core.Path.{_≡_};
+ghost use lib.Dec.{ltb};
+ghost use Rattle.faults.specs.Faults.{unknownName, bucketBeyond, nodeBeyond, bitDisagrees, idleNotZero, kindMisfit, errandMisfit, makingAstray, sizeMisfit, workerDamaged};
+use header::Header;
+use names::errand;
+use names::kind;
+use names::place;
+use record::Worker;
+
+// The number x is above n.
+fn above(n: u64, x: u32) -> bool
+    ensures { λ r. ⌜ r ≡ ltb n x ⌝ }
+{
+    n < x as u64
+}
+
+// A busy record's kind is known too.
+fn unknown_name(x: Worker) -> bool
+    ensures { λ r. ⌜ r ≡ unknownName x ⌝ }
+{
+    (place::D6 < x.place)
+        | (errand::EXTRA < x.errand)
+        | (kind::DELETE < x.kind)
+        | ((x.kind == 0) & !(x.place == place::IDLE))
+}
+
+fn bucket_beyond(x: Worker, h: Header) -> bool
+    ensures { λ r. ⌜ r ≡ bucketBeyond h x ⌝ }
+{
+    (h.m <= x.wanted) | (h.m <= x.making)
+}
+
+fn node_beyond(x: Worker, n: u64) -> bool
+    ensures { λ r. ⌜ r ≡ nodeBeyond n x ⌝ }
+{
+    above(n, x.start)
+        | above(n, x.prev)
+        | above(n, x.cur)
+        | above(n, x.next)
+        | above(n, x.held)
+        | above(n, x.dummy)
+}
+
+fn bit_disagrees(x: Worker, h: Header, w: u32) -> bool
+    ensures { λ r. ⌜ r ≡ bitDisagrees h w x ⌝ }
+{
+    let busy = sets::has(h.busy, w);
+    (busy & (x.place == place::IDLE)) | (!busy & !(x.place == place::IDLE))
+}
+
+fn idle_not_zero(x: Worker) -> bool
+    ensures { λ r. ⌜ r ≡ idleNotZero x ⌝ }
+{
+    if x.place == place::IDLE {
+        return (0 < x.errand)
+            | (0 < x.kind)
+            | (0 < x.key)
+            | (0 < x.wanted)
+            | (0 < x.making)
+            | (0 < x.size)
+            | (0 < x.start)
+            | (0 < x.prev)
+            | (0 < x.cur)
+            | (0 < x.next)
+            | x.marked
+            | (0 < x.held)
+            | (0 < x.dummy)
+            | (0 < x.steps);
+    }
+    false
+}
+
+fn kind_misfit(x: Worker) -> bool
+    ensures { λ r. ⌜ r ≡ kindMisfit x ⌝ }
+{
+    (((x.place == place::I1) | ((place::I8 <= x.place) & (x.place <= place::I10)))
+        & !(x.kind == kind::INSERT))
+        | (((place::D4A <= x.place) & (x.place <= place::D6)) & !(x.kind == kind::DELETE))
+}
+
+fn errand_misfit(x: Worker) -> bool
+    ensures { λ r. ⌜ r ≡ errandMisfit x ⌝ }
+{
+    ((x.place == place::L2)
+        & !((x.errand == errand::DUMMY) | ((x.errand == errand::KEY) & (x.kind == kind::INSERT))))
+        | (((place::F1 <= x.place) & (x.place <= place::L2))
+            & (x.errand == errand::EXTRA)
+            & !(x.kind == kind::DELETE))
+}
+
+fn making_astray(x: Worker) -> bool
+    ensures { λ r. ⌜ r ≡ makingAstray x ⌝ }
+{
+    if (x.place == place::B2) | (x.place == place::B4) | (x.place == place::B8) {
+        return (x.making == 0) | !split::on_path(x.wanted, x.making);
+    }
+    false
+}
+
+fn size_misfit(x: Worker, h: Header) -> bool
+    ensures { λ r. ⌜ r ≡ sizeMisfit h x ⌝ }
+{
+    if (place::I9 <= x.place) & (x.place <= place::I10) {
+        return !split::power_up_to(h.m, x.size) | ((x.place == place::I10) & (h.m <= x.size));
+    }
+    false
+}
+
+// 12, the record's own part.
+pub fn damaged(x: Worker, h: Header, w: u32) -> bool
+    ensures { λ r. ⌜ r ≡ workerDamaged h w x ⌝ }
+{
+    unknown_name(x)
+        | (names::KEY_LIMIT < x.key)
+        | bucket_beyond(x, h)
+        | node_beyond(x, h.nodes())
+        | bit_disagrees(x, h, w)
+        | idle_not_zero(x)
+        | kind_misfit(x)
+        | errand_misfit(x)
+        | making_astray(x)
+        | size_misfit(x, h)
+}

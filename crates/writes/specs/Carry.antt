@@ -1,0 +1,57 @@
+-- A decision carried out: the write, and at an ended answer the operation closed.
+use Prim.Native.Nat.{ℕ, _+_}
+use mathlib.Core.List.{List}
+use lib.Dec.{ltb}
+use Rattle.choice.specs.Choice.{pick}
+use Rattle.words.specs.Words.{STANDING, put}
+use Rattle.scans.specs.Scans.{sweep}
+use Rattle.sets.specs.Sets.{dropped}
+use Rattle.names.specs.Names.{CEILING}
+use Rattle.names.specs.declared.Answer.{Answer}
+use Rattle.names.specs.declared.Answer.the-variants.{Going as GoingOn, Damaged as IsDamaged}
+use Rattle.header.specs.declared.Header.{Header}
+use Rattle.header.specs.Header.{busied}
+use Rattle.record.specs.declared.Worker.{Worker}
+use Rattle.record.specs.Fields.{withSteps}
+use Rattle.record.specs.Worker.{idle, heldKey, heldDummy}
+use Rattle.acts.specs.declared.Effect.{Effect}
+use Rattle.acts.specs.declared.Move.{Move}
+use Rattle.acts.specs.declared.Move.the-variants.{Damaged, Going, Ended}
+use Rattle.writes.specs.Writes.{nodesAfter, bucketsAfter, headerAfter}
+use Rattle.writes.specs.declared.Outcome.{Outcome}
+
+-- all that a call leaves: what it hands back, and the two lent tables
+pub record After : Type 0 where
+  pub out : Outcome
+  pub nodes : List ℕ
+  pub buckets : List ℕ
+
+abbrev pub after : Outcome → List ℕ → List ℕ → After
+after o ns bs = record { out = o; nodes = ns; buckets = bs }
+
+-- header and record as they came, with an answer that changes nothing
+abbrev pub handedBack : Answer → Header → Worker → Outcome
+handedBack a h x = record { answer = a; steps = 0; header = h; worker = x }
+
+-- a record counts its operation's steps and stays at the ceiling
+unfoldable pub tick : ℕ → ℕ
+tick steps = pick (ltb steps CEILING) (steps + 1) steps
+
+-- the operation goes on: the step is counted in the record
+abbrev pub going : Worker → Effect → Header → Outcome
+going x e h = record { answer = GoingOn; steps = 0; header = headerAfter e h; worker = withSteps (tick (x .steps)) x }
+
+-- the end: the nodes still held are free, the worker's bit leaves each standing that is a set, up to the last node
+unfoldable pub closedBy : ℕ → ℕ → Worker → List ℕ → List ℕ
+closedBy last w x ns = sweep w last (put (put ns (heldKey x) STANDING 0) (heldDummy x) STANDING 0)
+
+-- the record is idle with zeros, the busy bit is cleared, and the ending step is counted in
+abbrev pub ending : ℕ → Header → ℕ → Answer → Effect → Outcome
+ending w h steps a e =
+    let h′ = headerAfter e h in record { answer = a; steps = tick steps; header = busied (dropped w (h′ .busy)) h′; worker = idle }
+
+-- a decision carried out for worker w, with its header and record, where the last node is `last`
+abbrev pub carriedBy : ℕ → ℕ → Header → Worker → Move → List ℕ → List ℕ → After
+carriedBy last w h x Damaged ns bs = after (handedBack IsDamaged h x) ns bs
+carriedBy last w h x (Going y e) ns bs = after (going y e h) (nodesAfter e ns) (bucketsAfter e bs)
+carriedBy last w h x (Ended a e) ns bs = after (ending w h (x .steps) a e) (closedBy last w x (nodesAfter e ns)) (bucketsAfter e bs)
