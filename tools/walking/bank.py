@@ -123,12 +123,13 @@ class Bank:
         return held.text("      ")
 
     def brought_in(self):
-        """The names that a number or the limits by value bring in."""
+        """The names that a number, the limits or a call by value bring in."""
         if self.call == "prepare":
-            limits = "use Rattle.register.specs.declared.Limits.{Limits}\nuse Rattle.register.proofs.Limits as tyL\nuse Rattle.register.proofs.Limits.Laws as lawL\n"
-            return dict(nat="ℕ", syntax="named", val="Val", of_numbers="", of_limits=limits, mach="machH, machL", typed="typedH, typedL")
+            limits = "use Rattle.prepare.specs.declared.Limits.{Limits}\nuse Rattle.prepare.proofs.Limits as tyL\nuse Rattle.prepare.proofs.Limits.Laws as lawL\n"
+            return dict(nat="ℕ", syntax="named", val="Val", of_numbers="", of_value=limits, mach="machH, machL", typed="typedH, typedL")
         numbers = "use denote.Plain.{uint-makes, uint-vals, uint-tells}\n"
-        return dict(nat="ℕ, _<_, _^_", syntax="named, w32", val="Val, vint", of_numbers=numbers, of_limits="", mach="machH", typed="typedH")
+        call = "use Rattle.crew.specs.declared.Call.{Call}\nuse denote.Enum.Laws as EL\nuse Rattle.crew.proofs.Call as tyK\nuse Rattle.crew.proofs.Call.Laws as lawK\n"
+        return dict(nat="ℕ, _<_, _^_", syntax="named, w32", val="Val, vint", of_numbers=numbers, of_value=call, mach="machH, machK", typed="typedH, typedK")
 
     def filled(self):
         values, count = self.values, len(self.values)

@@ -3,12 +3,13 @@ from held import nest
 
 
 class Value:
-    """A value in hand: a number or a struct, the expression for it, and what is known of it."""
+    """A value in hand: a number, a struct or an enum, the expression for it, and what is known of it."""
 
     def __init__(self, kind, expr, known):
         self.kind, self.expr, self.known = kind, expr, known
         self.number = {"u32": "w32", "usize": "w64"}.get(kind)
-        self.letter = {"Header": "H", "Limits": "L", "Worker": "W"}.get(kind)
+        self.book = "EL" if kind == "Call" else "LL"
+        self.letter = {"Header": "H", "Limits": "L", "Worker": "W", "Call": "K"}.get(kind)
 
     @property
     def type(self):
@@ -29,7 +30,7 @@ class Value:
     @property
     def fact(self):
         bits = {"w32": 32, "w64": 64}
-        return f"{self.expr} < 2 ^ {bits[self.number]}" if self.number else f"Is {self.row} {self.expr} (LL.vals {self.laws} {self.expr})"
+        return f"{self.expr} < 2 ^ {bits[self.number]}" if self.number else f"Is {self.row} {self.expr} ({self.book}.vals {self.laws} {self.expr})"
 
     @property
     def typed(self):
@@ -39,24 +40,24 @@ class Value:
     @property
     def own(self):
         """The step that makes what the value owns: it is plain, so it is made of nothing."""
-        makes = f"uint-makes 𝓤 H A W {self.number}" if self.number else f"LL.makes ty{self.letter}.the-type law{self.letter}.the-plain 𝓤 H A"
+        makes = f"uint-makes 𝓤 H A W {self.number}" if self.number else f"{self.book}.makes ty{self.letter}.the-type law{self.letter}.the-plain 𝓤 H A"
         known = f"(refl, {self.known})" if self.number else self.known
         return f"owned ! {self.row} (Is {self.row}) ({makes}) {self.expr} _ {known}"
 
     @property
     def vals(self):
-        return f"uint-vals {self.number}" if self.number else f"LL.vals {self.laws}"
+        return f"uint-vals {self.number}" if self.number else f"{self.book}.vals {self.laws}"
 
     @property
     def tells(self):
-        return f"uint-tells {self.number}" if self.number else f"LL.tells {self.laws}"
+        return f"uint-tells {self.number}" if self.number else f"{self.book}.tells {self.laws}"
 
     def given(self, path):
         """The fact of it at the function's entry, which stands there in the parameter at this path."""
         return f"(are{path} .0 .1)" if self.number else f"(are{path} .0)"
 
 
-KINDS = {"w": "u32", "kind": "u32", "key": "u32", "more": "u32", "header": "Header", "limits": "Limits"}
+KINDS = {"w": "u32", "call": "Call", "header": "Header", "limits": "Limits"}
 
 
 def plain(names):

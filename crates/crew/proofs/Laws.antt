@@ -20,16 +20,21 @@ use Rattle.header.specs.declared.Header.{Header}
 use Rattle.header.specs.Header.{headerDamaged, limitBroken}
 use Rattle.record.specs.declared.Worker.{Worker}
 use Rattle.record.specs.Worker.{idle}
-use Rattle.register.specs.declared.Limits.{Limits}
+use Rattle.prepare.specs.declared.Limits.{Limits}
 use Rattle.register.specs.declared.Turn.{Turn}
-use Rattle.register.specs.declared.Outcome.{Outcome}
-use Rattle.register.specs.declared.Verdict.{Verdict}
-use Rattle.register.specs.declared.Verdict.the-variants.{Refused}
-use Rattle.register.specs.Step.{After, after, refusedWith}
-use Rattle.register.specs.Calls.{Kept, isShort, freshHeader, prepared, startedBy, startVerdict, startOf, steppedBy, stepVerdict, stepOf}
+use Rattle.writes.specs.declared.Outcome.{Outcome}
+use Rattle.names.specs.declared.Verdict.{Verdict}
+use Rattle.names.specs.declared.Verdict.the-variants.{Refused}
+use Rattle.writes.specs.Carry.{After, after}
+use Rattle.register.specs.Step.{refusedWith}
+use Rattle.prepare.specs.Prepare.{Kept, freshHeader, prepared}
+use Rattle.header.specs.Header.{isShort}
+use Rattle.register.specs.Calls.{startedBy, startVerdict, startOf, steppedBy, stepVerdict, stepOf}
+use Rattle.crew.specs.declared.Call.{Call}
+use Rattle.crew.specs.declared.Call.the-variants.{Start, Steps}
 use Rattle.crew.specs.declared.Ready.{Ready}
-use Rattle.crew.specs.Crew.{Left, left, refused, called, turnAt, stored, tooFew, stepAt, startAt, filled, ready, tooFewFor, prepareAt, turn, going, moreAt, stepsAt}
-use Rattle.crew.specs.One.{pastOf, stepOne, startOne, wants, Wanted, wanted, prepareOne, moreOne, stepsOne}
+use Rattle.crew.specs.Crew.{Left, left, refused, called, turnAt, stored, tooFew, stepAt, startAt, filled, ready, tooFewFor, prepareAt, turn, going, moreAt, stepsAt, serveAt}
+use Rattle.crew.specs.One.{pastOf, stepOne, startOne, wants, Wanted, wanted, prepareOne, moreOne, stepsOne, serveOne}
 
 -- the first three rows of a start and of a step, where the third holds
 three : (d s n : Bool) (later : Verdict) → n ≡ true → pick d (Refused Damaged) (pick s (Refused Short) (pick n (Refused NoWorker) later)) ≡ Refused (pick d Damaged (pick s Short NoWorker))
@@ -186,6 +191,16 @@ module _ (h : Header) (ws : List Worker) (w : ℕ) (ns bs : List ℕ) (more : �
 
   pub steps-in : (o : Outcome) (ms cs : List ℕ) → after o ms cs ≡ stepsOne (turnAt h ws w) (length ws) more ns bs → left (called o) (set ws w (o .worker)) ms cs ≡ stepsAt h ws w more ns bs
   steps-in o ms cs e = ap (stored ws w) e ∙ steps-stored
+
+-- ---- a call is a start or steps
+module _ (h : Header) (ws : List Worker) (w : ℕ) (ns bs : List ℕ) where
+  pub serve-past : (c : Call) → length ws ≤ w → left (refused (pastOf h (length ws) (length ns) (length bs)) h) ws ns bs ≡ serveAt h ws w c ns bs
+  serve-past (Start kind key) = start-past h ws w ns bs kind key
+  serve-past (Steps more) = steps-past h ws w ns bs more
+
+  pub serve-in : (c : Call) (o : Outcome) (ms cs : List ℕ) → after o ms cs ≡ serveOne (turnAt h ws w) (length ws) c ns bs → left (called o) (set ws w (o .worker)) ms cs ≡ serveAt h ws w c ns bs
+  serve-in (Start kind key) = start-in h ws w ns bs kind key
+  serve-in (Steps more) = steps-in h ws w ns bs more
 
 -- filling keeps the length, and filling none changes nothing
 pub filled-length : (n : ℕ) (x : Worker) (ws : List Worker) → length (filled n x ws) ≡ length ws

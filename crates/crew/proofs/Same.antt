@@ -12,18 +12,15 @@ use borrow.Fn.Kinds.{Dens, resT, endedOf}
 use Rattle.choice.proofs.Cases.{both}
 use Rattle.header.specs.declared.Header.{Header}
 use Rattle.record.specs.declared.Worker.{Worker}
-use Rattle.register.specs.declared.Limits.{Limits}
+use Rattle.prepare.specs.declared.Limits.{Limits}
+use Rattle.crew.specs.declared.Call.{Call}
 use Rattle.crew.specs.declared.Called.{Called}
 use Rattle.crew.specs.declared.Bank.{Bank}
-use Rattle.crew.specs.Crew.{Left, left, prepareAt, startAt, stepAt, stepsAt}
+use Rattle.crew.specs.Crew.{Left, left, prepareAt, startAt, serveAt}
 use Rattle.crew.proofs.prepare_bank.Reads as prepare-bank
 use Rattle.crew.proofs.prepare_bank.Kinds as prepare-bank-kinds
-use Rattle.crew.proofs.start_bank.Reads as start-bank
-use Rattle.crew.proofs.start_bank.Kinds as start-bank-kinds
-use Rattle.crew.proofs.step_bank.Reads as step-bank
-use Rattle.crew.proofs.steps_bank.Reads as steps-bank
-use Rattle.crew.proofs.step_bank.Kinds as step-bank-kinds
-use Rattle.crew.proofs.steps_bank.Kinds as steps-bank-kinds
+use Rattle.crew.proofs.serve_bank.Reads as serve-bank
+use Rattle.crew.proofs.serve_bank.Kinds as serve-bank-kinds
 
 -- two calls over a lent table that leave the same: the same answer, steps and header, the same records, node words and bucket words
 abbrev pub Agree : Called → List Worker → List ℕ → List ℕ → Called → List Worker → List ℕ → List ℕ → Type 0
@@ -39,17 +36,9 @@ pub prepare-same : (limits : Limits) (header : Header) (workers : List Worker) (
     → left r ws ns bs ≡ prepareAt limits header workers nodes buckets → left r′ ws′ ns′ bs′ ≡ prepareAt limits header workers nodes buckets → Agree r ws ns bs r′ ws′ ns′ bs′
 prepare-same limits header workers nodes buckets = same (prepareAt limits header workers nodes buckets)
 
-pub start-same : (header : Header) (workers : List Worker) (w kind key : ℕ) (nodes buckets : List ℕ) (r r′ : Called) (ws ws′ : List Worker) (ns ns′ bs bs′ : List ℕ)
-    → left r ws ns bs ≡ startAt header workers w kind key nodes buckets → left r′ ws′ ns′ bs′ ≡ startAt header workers w kind key nodes buckets → Agree r ws ns bs r′ ws′ ns′ bs′
-start-same header workers w kind key nodes buckets = same (startAt header workers w kind key nodes buckets)
-
-pub step-same : (header : Header) (workers : List Worker) (w : ℕ) (nodes buckets : List ℕ) (r r′ : Called) (ws ws′ : List Worker) (ns ns′ bs bs′ : List ℕ)
-    → left r ws ns bs ≡ stepAt header workers w nodes buckets → left r′ ws′ ns′ bs′ ≡ stepAt header workers w nodes buckets → Agree r ws ns bs r′ ws′ ns′ bs′
-step-same header workers w nodes buckets = same (stepAt header workers w nodes buckets)
-
-pub steps-same : (header : Header) (workers : List Worker) (w more : ℕ) (nodes buckets : List ℕ) (r r′ : Called) (ws ws′ : List Worker) (ns ns′ bs bs′ : List ℕ)
-    → left r ws ns bs ≡ stepsAt header workers w more nodes buckets → left r′ ws′ ns′ bs′ ≡ stepsAt header workers w more nodes buckets → Agree r ws ns bs r′ ws′ ns′ bs′
-steps-same header workers w more nodes buckets = same (stepsAt header workers w more nodes buckets)
+pub serve-same : (header : Header) (workers : List Worker) (w : ℕ) (call : Call) (nodes buckets : List ℕ) (r r′ : Called) (ws ws′ : List Worker) (ns ns′ bs bs′ : List ℕ)
+    → left r ws ns bs ≡ serveAt header workers w call nodes buckets → left r′ ws′ ns′ bs′ ≡ serveAt header workers w call nodes buckets → Agree r ws ns bs r′ ws′ ns′ bs′
+serve-same header workers w call nodes buckets = same (serveAt header workers w call nodes buckets)
 
 -- a start writes neither table of words
 pub start-keeps : (header : Header) (workers : List Worker) (w kind key : ℕ) (nodes buckets : List ℕ) → (startAt header workers w kind key nodes buckets .nodes ≡ nodes) × (startAt header workers w kind key nodes buckets .buckets ≡ buckets)
@@ -69,20 +58,8 @@ pub prepare-bank-same : (κs : Lfts 2) (a : Dens κs prepare-bank-kinds.ps) (x y
     → (x ≡ y) × (now (e .1 .1 .1 .0) ≡ now (f .1 .1 .1 .0)) × (now (e .1 .1 .1 .1 .0) ≡ now (f .1 .1 .1 .1 .0))
 prepare-bank-same κs a x y e f p q = same-bank _ x y (now (e .1 .1 .1 .0)) (now (f .1 .1 .1 .0)) (now (e .1 .1 .1 .1 .0)) (now (f .1 .1 .1 .1 .0)) p q
 
--- two starts
-pub start-bank-same : (κs : Lfts 2) (a : Dens κs start-bank-kinds.ps) (x y : resT start-bank-kinds.r κs .Denot) (e f : AtExit (endedOf 2 start-bank-kinds.ps start-bank-kinds.r) κs)
-    → start-bank.Post κs a x e → start-bank.Post κs a y f
-    → (x ≡ y) × (now (e .1 .1 .1 .1 .1 .0) ≡ now (f .1 .1 .1 .1 .1 .0)) × (now (e .1 .1 .1 .1 .1 .1 .0) ≡ now (f .1 .1 .1 .1 .1 .1 .0))
-start-bank-same κs a x y e f p q = same-bank _ x y (now (e .1 .1 .1 .1 .1 .0)) (now (f .1 .1 .1 .1 .1 .0)) (now (e .1 .1 .1 .1 .1 .1 .0)) (now (f .1 .1 .1 .1 .1 .1 .0)) p q
-
--- two steps
-pub step-bank-same : (κs : Lfts 2) (a : Dens κs step-bank-kinds.ps) (x y : resT step-bank-kinds.r κs .Denot) (e f : AtExit (endedOf 2 step-bank-kinds.ps step-bank-kinds.r) κs)
-    → step-bank.Post κs a x e → step-bank.Post κs a y f
-    → (x ≡ y) × (now (e .1 .1 .1 .0) ≡ now (f .1 .1 .1 .0)) × (now (e .1 .1 .1 .1 .0) ≡ now (f .1 .1 .1 .1 .0))
-step-bank-same κs a x y e f p q = same-bank _ x y (now (e .1 .1 .1 .0)) (now (f .1 .1 .1 .0)) (now (e .1 .1 .1 .1 .0)) (now (f .1 .1 .1 .1 .0)) p q
-
--- two runs of steps
-pub steps-bank-same : (κs : Lfts 2) (a : Dens κs steps-bank-kinds.ps) (x y : resT steps-bank-kinds.r κs .Denot) (e f : AtExit (endedOf 2 steps-bank-kinds.ps steps-bank-kinds.r) κs)
-    → steps-bank.Post κs a x e → steps-bank.Post κs a y f
+-- two calls of a worker
+pub serve-bank-same : (κs : Lfts 2) (a : Dens κs serve-bank-kinds.ps) (x y : resT serve-bank-kinds.r κs .Denot) (e f : AtExit (endedOf 2 serve-bank-kinds.ps serve-bank-kinds.r) κs)
+    → serve-bank.Post κs a x e → serve-bank.Post κs a y f
     → (x ≡ y) × (now (e .1 .1 .1 .1 .0) ≡ now (f .1 .1 .1 .1 .0)) × (now (e .1 .1 .1 .1 .1 .0) ≡ now (f .1 .1 .1 .1 .1 .0))
-steps-bank-same κs a x y e f p q = same-bank _ x y (now (e .1 .1 .1 .1 .0)) (now (f .1 .1 .1 .1 .0)) (now (e .1 .1 .1 .1 .1 .0)) (now (f .1 .1 .1 .1 .1 .0)) p q
+serve-bank-same κs a x y e f p q = same-bank _ x y (now (e .1 .1 .1 .1 .0)) (now (f .1 .1 .1 .1 .0)) (now (e .1 .1 .1 .1 .1 .0)) (now (f .1 .1 .1 .1 .1 .0)) p q

@@ -25,10 +25,12 @@ use denote.Array.{Array, each, arrayVal, array-tells, array-lawful, array-makes}
 use denote.Slice.{Room}
 use denote.Steps.{peeks}
 use denote.Struct.Laws as LL
+use denote.Enum.Laws as EL
 use Rattle.header.specs.declared.Header.{Header}
 use Rattle.record.specs.declared.Worker.{Worker}
 use Rattle.record.specs.Worker.{idle}
-use Rattle.register.specs.declared.Limits.{Limits}
+use Rattle.prepare.specs.declared.Limits.{Limits}
+use Rattle.crew.specs.declared.Call.{Call}
 use Rattle.crew.specs.declared.Called.{Called}
 use Rattle.crew.specs.declared.Served.{Served}
 use Rattle.crew.specs.declared.Bank.{Bank}
@@ -36,15 +38,17 @@ use Rattle.record.proofs.Worker as tyW
 use Rattle.record.proofs.Worker.Laws as lawW
 use Rattle.header.proofs.Header as tyH
 use Rattle.header.proofs.Header.Laws as lawH
-use Rattle.register.proofs.Limits as tyL
-use Rattle.register.proofs.Limits.Laws as lawL
+use Rattle.prepare.proofs.Limits as tyL
+use Rattle.prepare.proofs.Limits.Laws as lawL
+use Rattle.crew.proofs.Call as tyK
+use Rattle.crew.proofs.Call.Laws as lawK
 use Rattle.crew.proofs.Called as tyC
 use Rattle.crew.proofs.Called.Laws as lawC
 use Rattle.crew.proofs.Served as tyS
 use Rattle.crew.proofs.Served.Laws as lawS
 use Rattle.crew.proofs.Bank as tyB
 
--- each struct's row, and its machine value
+-- each type's row, and its machine value
 abbrev pub rowW : RattleType
 rowW = tyW.the-row
 
@@ -56,6 +60,9 @@ machH = LL.val tyH.the-type lawH.the-laws
 
 abbrev pub machL : Limits → Val
 machL = LL.val tyL.the-type lawL.the-laws
+
+abbrev pub machK : Call → Val
+machK = EL.val tyK.the-type lawK.the-laws
 
 abbrev pub machC : Called → Val
 machC = LL.val tyC.the-type lawC.the-laws
@@ -165,6 +172,9 @@ module _ {M : Type 1} (𝓤 : URA M) (H : Heap 𝓤) (A : Atoms 𝓤) (W : Given
 
   pub typedL : (x : Limits) → Is tyL.the-row x (machL x ∷ []) → Holds (hasTy lawL.mir (machL x)) × WT (machL x)
   typedL x g = LL.lawful tyL.the-type lawL.the-laws 𝓤 H A W .typed x _ g .0
+
+  pub typedK : (x : Call) → Is tyK.the-row x (machK x ∷ []) → Holds (hasTy lawK.mir (machK x)) × WT (machK x)
+  typedK x g = EL.lawful tyK.the-type lawK.the-laws 𝓤 H A W tt .typed x _ g .0
 
   pub typedC : (x : Called) → Is tyC.the-row x (machC x ∷ []) → Holds (hasTy lawC.mir (machC x)) × WT (machC x)
   typedC x g = LL.lawful tyC.the-type lawC.the-laws 𝓤 H A W .typed x _ g .0

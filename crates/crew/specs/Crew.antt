@@ -12,12 +12,15 @@ use Rattle.header.specs.declared.Header.{Header}
 use Rattle.header.specs.Header.{limitBroken, headerDamaged}
 use Rattle.record.specs.declared.Worker.{Worker}
 use Rattle.record.specs.Worker.{idle}
-use Rattle.register.specs.declared.Limits.{Limits}
+use Rattle.prepare.specs.declared.Limits.{Limits}
 use Rattle.register.specs.declared.Turn.{Turn}
-use Rattle.register.specs.declared.Outcome.{Outcome}
-use Rattle.register.specs.declared.Prepared.{Prepared}
-use Rattle.register.specs.Step.{After, after}
-use Rattle.register.specs.Calls.{freshHeader, prepared, startOf, stepOf}
+use Rattle.writes.specs.declared.Outcome.{Outcome}
+use Rattle.prepare.specs.declared.Prepared.{Prepared}
+use Rattle.writes.specs.Carry.{After, after}
+use Rattle.prepare.specs.Prepare.{freshHeader, prepared}
+use Rattle.register.specs.Calls.{startOf, stepOf}
+use Rattle.crew.specs.declared.Call.{Call}
+use Rattle.crew.specs.declared.Call.the-variants.{Start, Steps}
 use Rattle.crew.specs.declared.Called.{Called}
 
 -- all that a call leaves: what it hands back, the records, and the two lent tables of words
@@ -76,6 +79,11 @@ moreAt w (suc more) l = pick (going (l .called .answer)) (moreAt w more (stepAt 
 
 unfoldable pub stepsAt : Header → List Worker → ℕ → ℕ → List ℕ → List ℕ → Left
 stepsAt h ws w more ns bs = moreAt w more (stepAt h ws w ns bs)
+
+-- ---- a call of worker w
+abbrev pub serveAt : Header → List Worker → ℕ → Call → List ℕ → List ℕ → Left
+serveAt h ws w (Start kind key) ns bs = startAt h ws w kind key ns bs
+serveAt h ws w (Steps more) ns bs = stepsAt h ws w more ns bs
 
 -- ---- preparing
 -- the records once the first n are x

@@ -9,14 +9,18 @@ use Rattle.names.specs.Names.{numberOf}
 use Rattle.names.specs.declared.Answer.{Answer}
 use Rattle.names.specs.declared.Answer.the-variants.{Short, Damaged, NoWorker}
 use Rattle.header.specs.declared.Header.{Header}
-use Rattle.header.specs.Header.{headerDamaged}
+use Rattle.header.specs.Header.{headerDamaged, isShort}
 use Rattle.record.specs.Worker.{idle}
-use Rattle.register.specs.declared.Limits.{Limits}
-use Rattle.register.specs.declared.Outcome.{Outcome}
-use Rattle.register.specs.declared.Prepared.{Prepared}
+use Rattle.prepare.specs.declared.Limits.{Limits}
+use Rattle.writes.specs.declared.Outcome.{Outcome}
+use Rattle.prepare.specs.declared.Prepared.{Prepared}
 use Rattle.register.specs.declared.Turn.{Turn}
-use Rattle.register.specs.Step.{After, after, refusedWith}
-use Rattle.register.specs.Calls.{isShort, prepared, startOf, stepOf}
+use Rattle.writes.specs.Carry.{After, after}
+use Rattle.register.specs.Step.{refusedWith}
+use Rattle.prepare.specs.Prepare.{prepared}
+use Rattle.register.specs.Calls.{startOf, stepOf}
+use Rattle.crew.specs.declared.Call.{Call}
+use Rattle.crew.specs.declared.Call.the-variants.{Start, Steps}
 use Rattle.crew.specs.declared.Served.{Served}
 use Rattle.crew.specs.declared.Ready.{Ready}
 use Rattle.crew.specs.Crew.{called, turn, going, tooFew, tooFewFor, ready}
@@ -46,6 +50,11 @@ moreOne w len (suc more) a = pick (going (a .out .answer)) (moreOne w len more (
 
 unfoldable pub stepsOne : Turn → ℕ → ℕ → List ℕ → List ℕ → After
 stepsOne t len more ns bs = moreOne (t .number) len more (stepOne t len ns bs)
+
+-- the call with the record in hand
+abbrev pub serveOne : Turn → ℕ → Call → List ℕ → List ℕ → After
+serveOne t len (Start kind key) ns bs = startOne t len kind key ns bs
+serveOne t len (Steps more) ns bs = stepsOne t len more ns bs
 
 -- a prepared register asks for W idle records, a refused one for none
 abbrev pub wants : ℕ → Prepared → Ready

@@ -2,16 +2,25 @@
 ghost use mathlib.Core.Path.{_≡_};
 ghost use Prim.Native.Nat.{_≤_};
 ghost use lib.ListN.{length};
-ghost use Rattle.register.specs.Step.{after};
-ghost use Rattle.crew.specs.Crew.{left, turn, refused, tooFew, filled, tooFewFor, stepAt, stepsAt, startAt, prepareAt};
-ghost use Rattle.crew.specs.One.{pastOf, apart, outcome, stepOne, stepsOne, startOne, wants, wanted, prepareOne};
+ghost use Rattle.writes.specs.Carry.{after};
+ghost use Rattle.crew.specs.Crew.{left, turn, refused, tooFew, filled, tooFewFor, serveAt, prepareAt};
+ghost use Rattle.crew.specs.One.{pastOf, apart, outcome, stepOne, stepsOne, startOne, serveOne, wants, wanted, prepareOne};
 use header::Header;
 use names::Answer;
+use names::place;
+use prepare::Limits;
+use prepare::Prepared;
 use record::Worker;
-use register::Limits;
-use register::Outcome;
-use register::Prepared;
 use register::Turn;
+use writes::Outcome;
+
+// What a worker is called for.
+pub enum Call {
+    // An operation of this kind on this key starts.
+    Start { kind: u32, key: u32 },
+    // One step, and up to so many more, ending after the first whose answer isn't 0.
+    Steps { more: u32 },
+}
 
 // What a call over the table hands back; an ended answer gives the operation's steps.
 pub struct Called {
@@ -57,8 +66,7 @@ fn past(header: Header, len: usize, nodes: usize, buckets: usize) -> Called
     if header.damaged() {
         return refused(Answer::Damaged, header);
     }
-    let short = ((nodes as u64) < header.nodes() * 3) | ((buckets as u64) < (header.m as u64));
-    if ((len as u64) < (header.w as u64)) | short {
+    if ((len as u64) < (header.w as u64)) | header.short(nodes, buckets) {
         return refused(Answer::Short, header);
     }
     refused(Answer::NoWorker, header)
@@ -141,6 +149,71 @@ fn start_one(
     apart(out)
 }
 
+// A step with the record in hand and up to so many more, ending after the first whose answer isn't 0.
+fn steps_one(
+    worker: Worker,
+    len: usize,
+    w: u32,
+    header: Header,
+    more: u32,
+    nodes: &mut [u32],
+    buckets: &mut [u32],
+) -> Served
+    ensures { λ r. ⌜ after (outcome r) (now (nodes .exit)) (now (buckets .exit)) ≡ stepsOne (turn header w worker) len more (now (nodes .entry)) (now (buckets .entry)) ⌝ }
+{
+    let mut out = step_one(worker, len, w, header, nodes, buckets);
+    let mut left = more;
+    while 0 < left {
+        let called = out.called;
+        let answer = called.answer;
+        if answer.number() != 0 {
+            return out;
+        }
+        out = step_one(out.worker, len, w, called.header, nodes, buckets);
+        left -= 1;
+    }
+    out
+}
+
+// The call with the record in hand.
+fn serve_one(
+    worker: Worker,
+    len: usize,
+    w: u32,
+    header: Header,
+    call: Call,
+    nodes: &mut [u32],
+    buckets: &mut [u32],
+) -> Served
+    ensures { λ r. ⌜ after (outcome r) (now (nodes .exit)) (now (buckets .exit)) ≡ serveOne (turn header w worker) len call (now (nodes .entry)) (now (buckets .entry)) ⌝ }
+{
+    match call {
+        Call::Start { kind, key } => start_one(worker, len, w, header, kind, key, nodes, buckets),
+        Call::Steps { more } => steps_one(worker, len, w, header, more, nodes, buckets),
+    }
+}
+
+// Worker w is called, on its record in the table.
+pub fn serve(
+    workers: &mut [Worker],
+    w: u32,
+    header: Header,
+    call: Call,
+    nodes: &mut [u32],
+    buckets: &mut [u32],
+) -> Called
+    ensures { λ r. ⌜ left r (now (workers .exit)) (now (nodes .exit)) (now (buckets .exit)) ≡ serveAt header (now (workers .entry)) w call (now (nodes .entry)) (now (buckets .entry)) ⌝ }
+{
+    let len = workers.len();
+    let at = w as usize;
+    if len <= at {
+        return past(header, len, nodes.len(), buckets.len());
+    }
+    let out = serve_one(workers[at], len, w, header, call, nodes, buckets);
+    workers[at] = out.worker;
+    out.called
+}
+
 // 10, then 11: there are fewer records than the W that is asked for.
 fn too_few_for(limits: Limits) -> Answer
     ensures { λ r. ⌜ r ≡ tooFewFor limits ⌝ }
@@ -171,7 +244,7 @@ fn wants(w: u32, out: Prepared) -> Ready
         steps: 0,
         header,
     };
-    let worker = Worker::idle();
+    let worker = Worker::fresh(place::IDLE, 0, 0);
     if answer.number() == 0 {
         return Ready {
             called,
@@ -204,73 +277,6 @@ fn prepare_one(
     wants(limits.w, out)
 }
 
-// One step of worker w, on its record in the table.
-pub fn step(
-    workers: &mut [Worker],
-    w: u32,
-    header: Header,
-    nodes: &mut [u32],
-    buckets: &mut [u32],
-) -> Called
-    ensures { λ r. ⌜ left r (now (workers .exit)) (now (nodes .exit)) (now (buckets .exit)) ≡ stepAt header (now (workers .entry)) w (now (nodes .entry)) (now (buckets .entry)) ⌝ }
-{
-    let len = workers.len();
-    let at = w as usize;
-    if len <= at {
-        return past(header, len, nodes.len(), buckets.len());
-    }
-    let out = step_one(workers[at], len, w, header, nodes, buckets);
-    workers[at] = out.worker;
-    out.called
-}
-
-// A step with the record in hand and up to so many more, ending after the first whose answer isn't 0.
-fn steps_one(
-    worker: Worker,
-    len: usize,
-    w: u32,
-    header: Header,
-    more: u32,
-    nodes: &mut [u32],
-    buckets: &mut [u32],
-) -> Served
-    ensures { λ r. ⌜ after (outcome r) (now (nodes .exit)) (now (buckets .exit)) ≡ stepsOne (turn header w worker) len more (now (nodes .entry)) (now (buckets .entry)) ⌝ }
-{
-    let mut out = step_one(worker, len, w, header, nodes, buckets);
-    let mut left = more;
-    while 0 < left {
-        let called = out.called;
-        let answer = called.answer;
-        if answer.number() != 0 {
-            return out;
-        }
-        out = step_one(out.worker, len, w, called.header, nodes, buckets);
-        left -= 1;
-    }
-    out
-}
-
-// One step of worker w and up to so many more, on its record in the table.
-pub fn steps(
-    workers: &mut [Worker],
-    w: u32,
-    header: Header,
-    more: u32,
-    nodes: &mut [u32],
-    buckets: &mut [u32],
-) -> Called
-    ensures { λ r. ⌜ left r (now (workers .exit)) (now (nodes .exit)) (now (buckets .exit)) ≡ stepsAt header (now (workers .entry)) w more (now (nodes .entry)) (now (buckets .entry)) ⌝ }
-{
-    let len = workers.len();
-    let at = w as usize;
-    if len <= at {
-        return past(header, len, nodes.len(), buckets.len());
-    }
-    let out = steps_one(workers[at], len, w, header, more, nodes, buckets);
-    workers[at] = out.worker;
-    out.called
-}
-
 // The first n records become x.
 fn fill(workers: &mut [Worker], n: usize, x: Worker)
     requires { ⌜ n ≤ length (now workers) ⌝ }
@@ -299,28 +305,6 @@ pub fn prepare(
     ready.called
 }
 
-// Worker w starts an operation, on its record in the table.
-pub fn start(
-    workers: &mut [Worker],
-    w: u32,
-    header: Header,
-    kind: u32,
-    key: u32,
-    nodes: &mut [u32],
-    buckets: &mut [u32],
-) -> Called
-    ensures { λ r. ⌜ left r (now (workers .exit)) (now (nodes .exit)) (now (buckets .exit)) ≡ startAt header (now (workers .entry)) w kind key (now (nodes .entry)) (now (buckets .entry)) ⌝ }
-{
-    let len = workers.len();
-    let at = w as usize;
-    if len <= at {
-        return past(header, len, nodes.len(), buckets.len());
-    }
-    let out = start_one(workers[at], len, w, header, kind, key, nodes, buckets);
-    workers[at] = out.worker;
-    out.called
-}
-
 // The table by value, lent for a preparing and taken back.
 pub fn prepare_bank(
     workers: [Worker; 16],
@@ -340,60 +324,20 @@ pub fn prepare_bank(
     }
 }
 
-// The table by value, lent for a start and taken back.
-pub fn start_bank(
+// The table by value, lent for a call and taken back.
+pub fn serve_bank(
     workers: [Worker; 16],
     w: u32,
     header: Header,
-    kind: u32,
-    key: u32,
+    call: Call,
     nodes: &mut [u32],
     buckets: &mut [u32],
 ) -> Bank
-    ensures { λ r. ⌜ left (r .called) (r .workers) (now (nodes .exit)) (now (buckets .exit)) ≡ startAt header workers w kind key (now (nodes .entry)) (now (buckets .entry)) ⌝ }
+    ensures { λ r. ⌜ left (r .called) (r .workers) (now (nodes .exit)) (now (buckets .exit)) ≡ serveAt header workers w call (now (nodes .entry)) (now (buckets .entry)) ⌝ }
 {
-    let mut started = workers;
-    let called = start(&mut started, w, header, kind, key, nodes, buckets);
-    let left = started;
-    Bank {
-        called,
-        workers: left,
-    }
-}
-
-// The table by value, lent for a step and taken back.
-pub fn step_bank(
-    workers: [Worker; 16],
-    w: u32,
-    header: Header,
-    nodes: &mut [u32],
-    buckets: &mut [u32],
-) -> Bank
-    ensures { λ r. ⌜ left (r .called) (r .workers) (now (nodes .exit)) (now (buckets .exit)) ≡ stepAt header workers w (now (nodes .entry)) (now (buckets .entry)) ⌝ }
-{
-    let mut stepped = workers;
-    let called = step(&mut stepped, w, header, nodes, buckets);
-    let left = stepped;
-    Bank {
-        called,
-        workers: left,
-    }
-}
-
-// The table by value, lent for several steps and taken back.
-pub fn steps_bank(
-    workers: [Worker; 16],
-    w: u32,
-    header: Header,
-    more: u32,
-    nodes: &mut [u32],
-    buckets: &mut [u32],
-) -> Bank
-    ensures { λ r. ⌜ left (r .called) (r .workers) (now (nodes .exit)) (now (buckets .exit)) ≡ stepsAt header workers w more (now (nodes .entry)) (now (buckets .entry)) ⌝ }
-{
-    let mut moved = workers;
-    let called = steps(&mut moved, w, header, more, nodes, buckets);
-    let left = moved;
+    let mut served = workers;
+    let called = serve(&mut served, w, header, call, nodes, buckets);
+    let left = served;
     Bank {
         called,
         workers: left,

@@ -3,7 +3,6 @@
 use mathlib.Core.Path.{_≡_, refl, ap, _∙_}
 use Rattle.choice.proofs.Auto.{then-is, else-is}
 use Rattle.names.specs.declared.Answer.{Answer}
-use Rattle.register.specs.Calls.{isShort}
 use Rattle.crew.specs.Crew.{refused}
 use Rattle.crew.specs.One.{pastOf}
 use borrow.Author.Needs.{needs}
@@ -20,14 +19,8 @@ returns : tie.Need-returns
 unfolding pastOf
 returns c = c .refused .ensures ∙ ap (λ (a : Answer). refused a (c .before .before .before .args .header)) (then-is _ _ _ _ (rw (← c .before .before .damaged .ensures) (c .before .if1 .taken)) refl)
 
-nodes-requires : tie.Need-nodes-requires
-nodes-requires c κs = tt
-
-mul-short : tie.Need-mul-short
-mul-short c = search needs
-
-cast-short : tie.Need-cast-short
-cast-short c = search needs
+short-requires : tie.Need-short-requires
+short-requires c κs = tt
 
 cast-if2 : tie.Need-cast-if2
 cast-if2 c = search needs
@@ -36,23 +29,23 @@ refused-requires-2 : tie.Need-refused-requires-2
 refused-requires-2 c κs = tt
 
 returns-2 : tie.Need-returns-2
-unfolding pastOf isShort
+unfolding pastOf
 returns-2 c =
     c .refused2 .ensures ∙
-    ap (λ (a : Answer). refused a (c .before .before .before .before .before .before .before .args .header))
-    (else-is _ _ _ _ (rw (← c .before .before .before .before .before .before .damaged .ensures) (c .before .before .before .before .before .if1 .left))
-    (then-is _ _ _ _ (rw (← c .before .before .before .before .nodes .ensures) (c .before .if2 .taken)) refl))
+    ap (λ (a : Answer). refused a (c .before .before .before .before .before .before .args .header))
+    (else-is _ _ _ _ (rw (← c .before .before .before .before .before .damaged .ensures) (c .before .before .before .before .if1 .left))
+    (then-is _ _ _ _ (rw (← c .before .before .short .ensures) (c .before .if2 .taken)) refl))
 
 refused-requires-3 : tie.Need-refused-requires-3
 refused-requires-3 c κs = tt
 
 returns-3 : tie.Need-returns-3
-unfolding pastOf isShort
+unfolding pastOf
 returns-3 c =
     c .refused3 .ensures ∙
-    ap (λ (a : Answer). refused a (c .before .before .before .before .before .before .before .args .header))
-    (else-is _ _ _ _ (rw (← c .before .before .before .before .before .before .damaged .ensures) (c .before .before .before .before .before .if1 .left))
-    (else-is _ _ _ _ (rw (← c .before .before .before .before .nodes .ensures) (c .before .if2 .left)) refl))
+    ap (λ (a : Answer). refused a (c .before .before .before .before .before .before .args .header))
+    (else-is _ _ _ _ (rw (← c .before .before .before .before .before .damaged .ensures) (c .before .before .before .before .if1 .left))
+    (else-is _ _ _ _ (rw (← c .before .before .short .ensures) (c .before .if2 .left)) refl))
 
 pub past-spec : {M : Type 1} → statement M
 past-spec =
@@ -61,10 +54,8 @@ past-spec =
     damaged-requires
     refused-requires
     returns
-    nodes-requires
-    mul-short
-    cast-short
     cast-if2
+    short-requires
     refused-requires-2
     returns-2
     refused-requires-3

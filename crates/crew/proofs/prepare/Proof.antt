@@ -40,7 +40,7 @@ use denote.Triple.Walked.{says, Stays, gave-slice, stay-none, walkOf, Walks, end
 use denote.Exit.{yes}
 use Rattle.header.specs.declared.Header.{Header}
 use Rattle.record.specs.declared.Worker.{Worker}
-use Rattle.register.specs.declared.Limits.{Limits}
+use Rattle.prepare.specs.declared.Limits.{Limits}
 use Rattle.crew.specs.declared.Called.{Called}
 use Rattle.crew.specs.declared.Ready.{Ready}
 use Rattle.crew.specs.Crew.{left, filled, prepareAt}
@@ -51,8 +51,8 @@ use Rattle.record.proofs.Worker as tyW
 use Rattle.record.proofs.Worker.Laws as lawW
 use Rattle.header.proofs.Header as tyH
 use Rattle.header.proofs.Header.Laws as lawH
-use Rattle.register.proofs.Limits as tyL
-use Rattle.register.proofs.Limits.Laws as lawL
+use Rattle.prepare.proofs.Limits as tyL
+use Rattle.prepare.proofs.Limits.Laws as lawL
 use Rattle.crew.proofs.Called as tyC
 use Rattle.crew.proofs.Called.Laws as lawC
 use Rattle.crew.proofs.Ready as tyR

@@ -50,9 +50,9 @@ use Rattle.record.specs.declared.Worker.{Worker}
 use Rattle.crew.specs.declared.Called.{Called}
 use Rattle.crew.specs.Crew.{left, prepareAt}
 use Rattle.crew.proofs.Walk.{full, leaves, rowW, machH, machL, rowA, mirA, machA, room16, bank, machB, is-bank, typedH, typedL, typedA, into-part, from-part, makes-array}
-use Rattle.register.specs.declared.Limits.{Limits}
-use Rattle.register.proofs.Limits as tyL
-use Rattle.register.proofs.Limits.Laws as lawL
+use Rattle.prepare.specs.declared.Limits.{Limits}
+use Rattle.prepare.proofs.Limits as tyL
+use Rattle.prepare.proofs.Limits.Laws as lawL
 use Rattle.record.proofs.Worker as tyW
 use Rattle.record.proofs.Worker.Laws as lawW
 use Rattle.header.proofs.Header as tyH

@@ -3,7 +3,7 @@
 use mathlib.Core.Path.{_≡_, refl, ap}
 use borrow.Author.Tests.{lt-ltb, le-ltb}
 use Rattle.choice.proofs.Auto.{then-is, else-is}
-use Rattle.register.specs.Calls.{Kept}
+use Rattle.prepare.specs.Prepare.{Kept}
 use Rattle.crew.specs.One.{prepareOne, wants, wanted}
 use borrow.Author.Needs.{needs}
 use Rattle.crew.proofs.prepare_one.Statement.{statement}

@@ -5,7 +5,7 @@ use native.Mathlib.Omega.{arith}
 use mathlib.Core.Path.{_≡_, refl, sym, ap, _∙_}
 use lib.ListN.{length}
 use borrow.Author.Tests.{eq-eqb, ne-eqb}
-use Rattle.register.specs.Step.{after}
+use Rattle.writes.specs.Carry.{after}
 use Rattle.crew.specs.One.{outcome, moreOne, stepsOne}
 use Rattle.crew.proofs.Laws.{more-none, more-stop, more-on}
 use Rattle.crew.proofs.steps_one.Statement.{statement}
