@@ -19,14 +19,13 @@ use Rattle.header.specs.Header.{dummiesOf, nodesOf}
 use Rattle.header.specs.Rows.{Limits}
 use Rattle.record.specs.declared.Worker.{Worker}
 use Rattle.names.specs.Names.{KEY-LIMIT}
-use Rattle.story.specs.Run.{key, link, standing, after, mark}
-use Rattle.story.specs.Story.{Same, Added, Removed}
+use Rattle.register.specs.Chain.{key, link, standing, after, mark}
 use Rattle.story.proofs.Memory
-use Rattle.story.proofs.Chain.{putAfter, cutAfter, put-new, put-old, cut-only, cut-self, some-on, succ-in}
-use Rattle.story.proofs.Facts.{Held, Own, Glob, Later}
+use Rattle.story.proofs.Chain.{putAfter, cutAfter, put-new, put-old, put-only, cut-only, cut-self, some-on, succ-in}
+use Rattle.story.proofs.Facts.{Held, Glob, OfBucket, Later}
 use Rattle.story.proofs.Core.{Pasts, Core, shift}
 use Rattle.story.proofs.Effects.{linked, linked-later, kept, unlinked, unlinked-later, marked, marked-later, penned, penned-later, took, took-later, freed, freed-later}
-use Rattle.story.proofs.Registers.{unchanged, linked-same, linked-adds, marked-removes}
+use Rattle.story.proofs.Registers.{Same, Added, Removed, dummy-is-even, unchanged, linked-same, linked-adds, marked-removes}
 
 -- no register has more nodes than a link can name
 pub few-nodes : (h : Header) → Limits h → nodesOf h < 2147483648
@@ -115,6 +114,13 @@ module _ {h : Header} {ws : List Worker} {Ps : Pasts} {w k d : ℕ} {c m bs : Li
     waits i v f a b (yes q) = absurd (omega (arith, rw (q, sh) at a))
     waits i v f a b (no ne) = core .waits i v f (rw (es i ne) at a) (rw (es i ne) at b)
 
+    take-keyed : (i : ℕ) → i ≤ N → 1 ≤ standing m₂ i → standing m₂ i < 65536 → Dec (i ≡ n) → D < i
+    take-keyed i f lo hi (yes q) = absurd (omega (arith, rw (q, sh) at hi))
+    take-keyed i f lo hi (no ne) = core .keyed i f (rw (es i ne) at lo) (rw (es i ne) at hi)
+
+    take-exact : (i : ℕ) → In i c → i ≤ D → OfBucket (h .m) (key m₂ i)
+    take-exact i j b = rw (ek i (new i j)) (core .exact i j b)
+
     pub take-key : k ≡ 0 → D < n → Core h ws Ps w n d c m₂ bs
     take-key z low = shift core {g = 0} (record {
       glob = g′;
@@ -128,6 +134,8 @@ module _ {h : Header} {ws : List Worker} {Ps : Pasts} {w k d : ℕ} {c m bs : Li
       stays = λ i t j. j;
       own = λ i t o. ⊎-elim (λ e. lost i t (sym e ∙ z)) (λ e. inr (inr e)) o;
       waits = λ i v f a b. waits i v f a b (ℕ-discrete i n);
+      keyed = λ i f lo hi. take-keyed i f lo hi (ℕ-discrete i n);
+      exact = take-exact;
       roots = λ i j b. (j, ek i (new i j));
     })
 
@@ -144,6 +152,8 @@ module _ {h : Header} {ws : List Worker} {Ps : Pasts} {w k d : ℕ} {c m bs : Li
       stays = λ i t j. j;
       own = λ i t o. ⊎-elim (λ e. inr (inl e)) (λ e. lost i t (sym e ∙ z)) o;
       waits = λ i v f a b. waits i v f a b (ℕ-discrete i n);
+      keyed = λ i f lo hi. take-keyed i f lo hi (ℕ-discrete i n);
+      exact = take-exact;
       roots = λ i j b. (j, ek i (new i j));
     })
 
@@ -180,6 +190,10 @@ module _ {h : Header} {ws : List Worker} {Ps : Pasts} {w k d : ℕ} {c m bs : Li
     fwaits i v f a b (yes q) = let z : standing f₁ i ≡ 0 = ap (standing f₁) q ∙ fn in absurd (omega (arith, bit-some v (standing f₁ i) b))
     fwaits i v f a b (no ne) = core .waits i v f (rw (fs i ne) at a) (rw (fs i ne) at b)
 
+    fkeyed : (i : ℕ) → i ≤ N → 1 ≤ standing f₁ i → standing f₁ i < 65536 → Dec (i ≡ n) → D < i
+    fkeyed i f lo hi (yes q) = absurd (omega (arith, rw (q, fn) at lo))
+    fkeyed i f lo hi (no ne) = core .keyed i f (rw (fs i ne) at lo) (rw (fs i ne) at hi)
+
     freeing : (k′ d′ : ℕ) → (n ≡ k) ⊎ (n ≡ d) → (k′ ≢ 0 → (k′ ≡ k) × (k′ ≢ n)) → (d′ ≢ 0 → (d′ ≡ d) × (d′ ≢ n)) → Dec (k′ ≡ 0) → Dec (d′ ≡ 0)
         → ((i : ℕ) → i ≢ n → (k ≡ i) ⊎ (d ≡ i) → (k′ ≡ i) ⊎ (d′ ≡ i)) → Core h ws Ps w k′ d′ c f₁ bs
     freeing k′ d′ touch ke de k0 d0 own = shift core {g = n} (record {
@@ -194,6 +208,8 @@ module _ {h : Header} {ws : List Worker} {Ps : Pasts} {w k d : ℕ} {c m bs : Li
       stays = λ i t j. j;
       own = λ i t o. inr (own i (λ e. not-free i t e) o);
       waits = λ i v f a b. fwaits i v f a b (ℕ-discrete i n);
+      keyed = λ i f lo hi. fkeyed i f lo hi (ℕ-discrete i n);
+      exact = λ i j b. rw (fk i) (core .exact i j b);
       roots = λ i j b. (j, fk i);
     })
 
@@ -259,14 +275,19 @@ module _ {h : Header} {ws : List Worker} {Ps : Pasts} {w k d : ℕ} {c m bs : Li
       stays = λ i t j. j;
       own = λ i t o. inr o;
       waits = λ i v f a b. core .waits i v f (rw (ast i) at a) (rw (ast i) at b);
+      keyed = λ i f lo hi. core .keyed i f (rw (ast i) at lo) (rw (ast i) at hi);
+      exact = λ i j b. rw (ak i) (core .exact i j b);
       roots = λ i j b. (j, ak i);
     })
 
     -- ---- L2 done: the held node is on the chain, between prev and cur
     module _ (prev most : ℕ) (i : In prev c) (was : link m prev ≡ cur * 2) (has : key m n ≡ most) (low : key m prev < most) (high : cur ≢ 0 → most < key m cur)
-        (even : n ≤ D → most % 2 ≡ 0) (odd : D < n → most % 2 ≡ 1) where
+        (root : n ≤ D → OfBucket (h .m) most) (odd : D < n → most % 2 ≡ 1) where
       abbrev p₁ : List ℕ
       p₁ = put a₁ prev LINK (linkTo n false)
+
+      even : n ≤ D → most % 2 ≡ 0
+      even b = let o = root b in rw (o .has) (dummy-is-even (o .bucket) (omega (arith, o .real, core .limits .buckets .1)))
 
       n-fits : n ≤ N
       n-fits = omega (arith, hh .high)
@@ -304,6 +325,10 @@ module _ {h : Header} {ws : List Worker} {Ps : Pasts} {w k d : ℕ} {c m bs : Li
       pub place-adds : (x : ℕ) → most ≡ regular x → x ≤ KEY-LIMIT → Added m p₁ x
       place-adds x e b = linked-adds D N c m p₁ prev n cur most g₀ i place-glob pk pl pp pn was (hh .off) has x e b low high
 
+      place-exact : (j : ℕ) → In j (putAfter i n) → j ≤ D → Dec (j ≡ n) → OfBucket (h .m) (key p₁ j)
+      place-exact j o b (yes e) = rw (pk j, e, has) (root (rw e at b))
+      place-exact j o b (no ne) = rw (pk j) (core .exact j (put-only i n o ne) b)
+
       placing : (k′ d′ : ℕ) → (n ≡ k) ⊎ (n ≡ d) → (k′ ≢ 0 → (k′ ≡ k) × (k′ ≢ n)) → (d′ ≢ 0 → (d′ ≡ d) × (d′ ≢ n)) → Dec (k′ ≡ 0) → Dec (d′ ≡ 0)
           → ((j : ℕ) → (k ≡ j) ⊎ (d ≡ j) → (n ≡ j) ⊎ ((k′ ≡ j) ⊎ (d′ ≡ j))) → Core h ws Ps w k′ d′ (putAfter i n) p₁ bs
       placing k′ d′ touch ke de k0 d0 own = shift core {g = n} (record {
@@ -318,6 +343,8 @@ module _ {h : Header} {ws : List Worker} {Ps : Pasts} {w k d : ℕ} {c m bs : Li
         stays = λ j t o. put-old i n o;
         own = λ j t o. ⊎-elim (λ e. inl (Memᴰ·cast (sym e) (put-new i n))) inr (own j o);
         waits = λ j v f a b. core .waits j v f (rw (ps j) at a) (rw (ps j) at b);
+        keyed = λ j f lo hi. core .keyed j f (rw (ps j) at lo) (rw (ps j) at hi);
+        exact = λ j o b. place-exact j o b (ℕ-discrete j n);
         roots = λ j o b. (put-old i n o, pk j);
       })
 
@@ -373,6 +400,8 @@ module _ {h : Header} {ws : List Worker} {Ps : Pasts} {w k d : ℕ} {c m bs : Li
       stays = λ j t o. o;
       own = λ j t o. inr o;
       waits = λ j v f a b. core .waits j v f (rw (ks j) at a) (rw (ks j) at b);
+      keyed = λ j f lo hi. core .keyed j f (rw (ks j) at lo) (rw (ks j) at hi);
+      exact = λ j o b. rw (kk j) (core .exact j o b);
       roots = λ j o b. (o, kk j);
     })
 
@@ -453,6 +482,8 @@ module _ {h : Header} {ws : List Worker} {Ps : Pasts} {w k d : ℕ} {c m bs : Li
       stays = λ j t o. u-kept j o (not-cur j t);
       own = λ j t o. inr o;
       waits = λ j v f a b. waits j v f a b (ℕ-discrete j cur);
+      keyed = λ j f lo hi. keyed j f lo hi (ℕ-discrete j cur);
+      exact = λ j o b. rw (uk j) (core .exact j (cut-only i o) b);
       roots = λ j o b. (u-kept j o (λ q. omega (arith, g₀ .dead cur u-cur (rw dead (omega arith)))), uk j);
     })
       where
@@ -462,3 +493,7 @@ module _ {h : Header} {ws : List Worker} {Ps : Pasts} {w k d : ℕ} {c m bs : Li
         waits : (j v : ℕ) → j ≤ N → standing u₁ j < 65536 → bit v (standing u₁ j) ≡ 1 → Dec (j ≡ cur) → bit v (h .busy) ≡ 1
         waits j v f a b (yes q) = rw (q, uc) at b
         waits j v f a b (no ne) = core .waits j v f (rw (us j ne) at a) (rw (us j ne) at b)
+
+        keyed : (j : ℕ) → j ≤ N → 1 ≤ standing u₁ j → standing u₁ j < 65536 → Dec (j ≡ cur) → D < j
+        keyed j f lo hi (yes q) = rw q (g₀ .dead cur u-cur (rw dead (omega arith)))
+        keyed j f lo hi (no ne) = core .keyed j f (rw (us j ne) at lo) (rw (us j ne) at hi)

@@ -2,33 +2,32 @@
 -- Assumes nothing.
 use mathlib.Core.Path.{_≡_, refl, sym, _∙_}
 use mathlib.Core.Logic.{_≢_}
-use mathlib.Core.Bool.{Bool, true, false, true≢false, _&&_}
+use mathlib.Core.Bool.{false}
 use mathlib.Core.List.{List}
 use Prim.Native.Nat.{ℕ, _%_, _≤_, _<_}
 use native.Mathlib.Omega.{arith}
 use native.Mathlib.Decide.{ℕ-discrete}
 use native.Mathlib.Nat.{mod-lt}
-use lib.Dec.{eqb, ltb}
-use borrow.Author.Tests.{eqb-true, ne-eqb, le-ltb}
+use lib.Dec.{ltb}
+use borrow.Author.Tests.{ne-eqb, le-ltb}
 use Rattle.choice.specs.Choice.{pick}
-use Rattle.choice.proofs.Cases.{by-bool, by-eq}
+use Rattle.choice.proofs.Cases.{by-eq}
 use Rattle.split.specs.Split.{regular, dummy, parentOf, nextDown}
 use Rattle.split.proofs.Laws.{dummy-first, parent-le, parent-first, on-path-self, on-path-up, on-path-le, next-down-parent}
 use Rattle.words.specs.Words.{STANDING, SPLIT-KEY, TAKEN, put, bucket}
 use Rattle.scans.specs.Scans.{lowest}
 use Rattle.scans.proofs.Laws.{lowest-free}
-use Rattle.names.specs.Names.{TB, B2, B4, F1, B8, KEY, DUMMY, INSERT}
-use Rattle.names.specs.declared.Answer.the-variants.{NoDummy}
+use Rattle.names.specs.Names.{TB, B2, B4, F1, KEY, DUMMY}
 use Rattle.header.specs.declared.Header.{Header}
 use Rattle.header.specs.Header.{dummiesOf, nodesOf}
 use Rattle.record.specs.declared.Worker.{Worker}
 use Rattle.record.specs.Fields.{to, withErrand, withWanted, withMaking, withStart, withDummy}
 use Rattle.record.specs.Worker.{heldKey, heldDummy}
-use Rattle.moves.specs.declared.Effect.the-variants.{Take, Store}
-use Rattle.moves.specs.declared.Move.{Move}
-use Rattle.moves.specs.declared.Move.the-variants.{Going}
+use Rattle.acts.specs.declared.Effect.the-variants.{Take, Store}
+use Rattle.acts.specs.declared.Move.{Move}
+use Rattle.acts.specs.declared.Move.the-variants.{Going}
 use Rattle.moves.specs.Moves.{tb, b2, b4, b8, sz}
-use Rattle.story.specs.Run.{key, standing}
+use Rattle.register.specs.Chain.{key, standing}
 use Rattle.story.proofs.Chain.{some-on}
 use Rattle.story.proofs.Registers.{unmoved}
 use Rattle.story.proofs.Facts as F
@@ -37,7 +36,8 @@ use Rattle.story.proofs.Stable as st
 use Rattle.story.proofs.Core.{Pasts}
 use Rattle.story.proofs.Acts.{take-dummy, take-later, take-same, take-key-is}
 use Rattle.story.proofs.Ends.{stored}
-use Rattle.story.proofs.Steps.{told-neither, took, ticked, Ctx, me, core, Good, Stands, looks, over, past, seen}
+use Rattle.story.proofs.Dummies.{some-free}
+use Rattle.story.proofs.Steps.{took, ticked, Ctx, me, core, Good, Stands, looks, past, seen}
 
 module _ {h : Header} {ws : List Worker} {Ps Qs : Pasts} {w : ℕ} {c m bs : List ℕ} (z : Ctx h ws Ps Qs w c m bs) where
   abbrev x : Worker
@@ -114,25 +114,13 @@ module _ {h : Header} {ws : List Worker} {Ps Qs : Pasts} {w : ℕ} {c m bs : Lis
       first : dummy up < dummy (x .making)
       first = parent-first (x .making) (omega (arith, b .1 .some)) (omega (arith, word-small (x .making) (s .sane .5)))
 
-  -- B4: the dummy node that is free is taken
+  -- B4: some dummy node is free, and it is taken
   pub b4-good : Stands z F.b4 → F.At h w c m (Ps w) F.b4 x → G (b4 (seen h x (lowest m 1 D) 0))
   unfolding b4 pick
-  b4-good s b = by-eq G n 0
-      (λ _. by-bool G (eqb (x .kind) INSERT && eqb (x .held) 0)
-      (λ t. absurd (b .0 (eqb-true (x .kind) INSERT (and-left (eqb (x .kind) INSERT) (eqb (x .held) 0) t)) (eqb-true (x .held) 0 (and-right (eqb (x .kind) INSERT) (eqb (x .held) 0) t))))
-      (λ _. over z false NoDummy c m (core z) unmoved (told-neither (λ a. let f : _≡_ {A = ℕ} 0 1 = cc in omega arith) (λ a. let f : _≡_ {A = ℕ} 0 1 = cc in omega arith))))
-      takes
+  b4-good s b = by-eq G n 0 (λ e. absurd (some-free (core z) (z .lt) (s .dum) e)) takes
     where
       n : ℕ
       n = lowest m 1 D
-
-      and-left : (p q : Bool) → p && q ≡ true → p ≡ true
-      and-left true q e = refl
-      and-left false q e = e
-
-      and-right : (p q : Bool) → p && q ≡ true → q ≡ true
-      and-right true q e = e
-      and-right false q e = absurd (true≢false (sym e))
 
       takes : n ≢ 0 → G (Going (to F1 (withErrand DUMMY (withDummy n x))) (Take n (dummy (x .making))))
       takes ne = record {

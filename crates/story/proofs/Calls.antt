@@ -18,28 +18,32 @@ use Rattle.words.specs.Words.{SPLIT-KEY, word}
 use Rattle.sets.specs.Sets.{bit}
 use Rattle.names.specs.Names.{IDLE, F3, L2, KEY, DUMMY, INSERT, DELETE, KEY-LIMIT, numberOf}
 use Rattle.names.specs.declared.Answer.{Answer}
-use Rattle.names.specs.declared.Answer.the-variants.{Going as GoingOn, Short, Damaged as IsDamaged, NoWorker, KeyAbove, IsBusy, IsIdle, NoKind}
+use Rattle.names.specs.declared.Answer.the-variants.{Going as GoingOn, Short, Damaged as IsDamaged, NoWorker, KeyAbove, IsBusy, IsIdle, NoKind, NoDummy}
 use Rattle.header.specs.declared.Header.{Header}
 use Rattle.header.specs.Header.{headerDamaged}
 use Rattle.record.specs.declared.Worker.{Worker}
-use Rattle.record.specs.Worker.{idle, begun, heldKey, heldDummy, workerDamaged}
+use Rattle.record.specs.Worker.{idle, begun, heldKey, heldDummy}
+use Rattle.faults.specs.Faults.{workerDamaged}
 use Rattle.moves.specs.declared.Seen.{Seen}
-use Rattle.moves.specs.declared.Effect.{Effect}
-use Rattle.moves.specs.declared.Effect.the-variants.{Nothing, Take, Free, Aim, Place, Mark, Unlink, Store, Count, Size}
-use Rattle.moves.specs.declared.Move.{Move}
-use Rattle.moves.specs.declared.Move.the-variants.{Damaged, Going, Ended}
+use Rattle.acts.specs.declared.Effect.{Effect}
+use Rattle.acts.specs.declared.Effect.the-variants.{Nothing, Take, Free, Aim, Place, Mark, Unlink, Store, Count, Size}
+use Rattle.acts.specs.declared.Move.{Move}
+use Rattle.acts.specs.declared.Move.the-variants.{Damaged, Going, Ended}
 use Rattle.moves.specs.Moves.{decidedAt, decided}
 use Rattle.writes.specs.Writes.{headerAfter}
 use Rattle.register.specs.declared.Turn.{Turn}
-use Rattle.register.specs.declared.Verdict.{Verdict}
-use Rattle.register.specs.declared.Verdict.the-variants.{Pass, Refused}
-use Rattle.register.specs.Step.{after, refusedWith, wordAt, wordFor, splitFor, seenBy, carried}
-use Rattle.register.specs.Calls.{isShort, startVerdict, startedBy, startOf, stepVerdict, steppedBy, stepOf}
+use Rattle.names.specs.declared.Verdict.{Verdict}
+use Rattle.names.specs.declared.Verdict.the-variants.{Pass, Refused}
+use Rattle.writes.specs.Carry.{after}
+use Rattle.register.specs.Step.{refusedWith, wordAt, wordFor, splitFor, seenBy, carried}
+use Rattle.header.specs.Header.{isShort}
+use Rattle.register.specs.Calls.{startVerdict, startedBy, startOf, stepVerdict, steppedBy, stepOf}
 use Rattle.crew.specs.Crew.{Left, turn, turnAt, stored, startAt, stepAt}
 use Rattle.promises.proofs.Shape.{Final, effect-at}
-use Rattle.story.specs.Run.{State, workerOf, Call, start, step, left, key, link, Event, nothing, added, removed, written, taking, stepping, event}
-use Rattle.story.specs.Story.{Change}
-use Rattle.story.proofs.Registers.{unmoved}
+use Rattle.register.specs.Chain.{key, link}
+use Rattle.register.specs.Events.{Event, nothing, added, removed, written, taking, stepping}
+use Rattle.story.specs.Run.{State, workerOf, Call, start, step, left, event}
+use Rattle.story.proofs.Registers.{Change, unmoved}
 use Rattle.story.proofs.Facts.{Spot, i1, sz, tb, b2, b4, f1, f2, f3, f4, l2, b8, i8, i9, i10, d4a, d4b, d6, number, At, keyOf, dumOf, Busy, Fact}
 use Rattle.story.proofs.Stable as st
 use Rattle.story.proofs.Hands.{key-is, dummy-is}
@@ -147,6 +151,8 @@ regrown {h} {ws} {Ps} {c} {m} {bs} inv Qs up = record {
   dum-mine = inv .dum-mine;
   whole = inv .whole;
   waits = inv .waits;
+  keyed = inv .keyed;
+  exact = inv .exact;
   room = inv .room;
   root₀ = inv .root₀;
   root = inv .root;
@@ -177,6 +183,7 @@ pub record Made (s : State) (Ps Qs : Pasts) (c : Call) (l : Left) (ev : Event) :
   pub tale : Tale s Ps c l ev
   pub sound : l .called .answer ≢ IsDamaged
   pub long : l .called .answer ≢ Short
+  pub dummies : l .called .answer ≢ NoDummy
   pub sizes : (l .called .header .m ≡ s .header .m) × (l .called .header .k ≡ s .header .k) × (l .called .header .w ≡ s .header .w)
 
 turns : (x : Worker) (a b a′ b′ : Bool) (ev : Event) → a′ ≡ a → b′ ≡ b → Turned x a b ev → Turned x a′ b′ ev
@@ -216,6 +223,7 @@ module _ (s : State) (Ps Qs : Pasts) (c : List ℕ) (inv : InvOf s Ps c) where
     tale = refused (set-back (s .workers) w) refl (pl .0) (pl .1) refl;
     sound = λ e. pl .3 (ap numberOf e);
     long = λ e. pl .2 (ap numberOf e);
+    dummies = λ e. omega (arith, pl .1, ap numberOf e);
     sizes = (refl, refl, refl);
   }
 
@@ -272,6 +280,7 @@ module _ (s : State) (Ps Qs : Pasts) (c : List ℕ) (inv : InvOf s Ps c) where
                   (took-is (b .spot) (workerOf s w) (b .place)) (took-is (g .next .spot) (ticked y) (g .next .place)) (g .turned)) refl (ty .is);
               sound = λ q. let f : _≡_ {A = ℕ} 0 1 = cc in omega arith;
               long = λ q. let f : _≡_ {A = ℕ} 0 1 = cc in omega arith;
+              dummies = λ q. let f : _≡_ {A = ℕ} 0 1 = cc in omega arith;
               sizes = (sized e h .0, sized e h .1, sized e h .2);
             }
             by-move (Ended an e) g f ty = record {
@@ -281,6 +290,7 @@ module _ (s : State) (Ps Qs : Pasts) (c : List ℕ) (inv : InvOf s Ps c) where
               tale = ends w refl lt refl (g .none) ne (rw (took-is (b .spot) (workerOf s w) (b .place)) (g .told)) (ty .is);
               sound = λ q. f (rw q (record { from = omega arith; upTo = omega arith }));
               long = λ q. f (rw q (record { from = omega arith; upTo = omega arith }));
+              dummies = λ q. omega (arith, g .told .below, ap numberOf q);
               sizes = (sized e h .0, sized e h .1, sized e h .2);
             }
 
@@ -319,6 +329,7 @@ module _ (s : State) (Ps Qs : Pasts) (c : List ℕ) (inv : InvOf s Ps c) where
       tale = begins w kind k refl lt refl refl refl refl (by-fact (inv .fact w lt (omega arith)));
       sound = λ q. let f : _≡_ {A = ℕ} 0 1 = cc in omega arith;
       long = λ q. let f : _≡_ {A = ℕ} 0 1 = cc in omega arith;
+      dummies = λ q. let f : _≡_ {A = ℕ} 0 1 = cc in omega arith;
       sizes = (refl, refl, refl);
     }
       where

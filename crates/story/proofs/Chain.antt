@@ -5,7 +5,7 @@ use mathlib.Core.Logic.{_≢_}
 use mathlib.Core.List.{List, [], _∷_, List·Memᴰ as In, List·Memᴰ·head as here, List·Memᴰ·tail as there}
 use Prim.Native.Nat.{ℕ, suc, _≤_, _<_}
 use native.Mathlib.Omega.{arith}
-use Rattle.story.specs.Run.{key, after, On, first, then}
+use Rattle.register.specs.Chain.{key, after, On, first, then}
 
 -- the first node of a walk from a whose split keys start at k or above
 pub record Cell (m : List ℕ) (k a n : ℕ) (Rest : Type 0) : Type 0 where

@@ -16,9 +16,9 @@ use Rattle.header.specs.Header.{dummiesOf, nodesOf}
 use Rattle.header.specs.Rows.{Limits, PowerFromTo}
 use Rattle.record.specs.declared.Worker.{Worker}
 use Rattle.record.specs.Worker.{idle, heldKey, heldDummy}
-use Rattle.story.specs.Run.{key, standing}
+use Rattle.register.specs.Chain.{key, standing}
 use Rattle.words.proofs.Laws.{nothing}
-use Rattle.story.proofs.Facts.{Held, Glob, Root, Spot, number, i1, sz, tb, b2, b4, f1, f2, f3, f4, l2, b8, i8, i9, i10, d4a, d4b, d6, keyOf, dumOf, Fact, Later}
+use Rattle.story.proofs.Facts.{Held, Glob, OfBucket, Root, Spot, number, i1, sz, tb, b2, b4, f1, f2, f3, f4, l2, b8, i8, i9, i10, d4a, d4b, d6, keyOf, dumOf, Fact, Later}
 use Rattle.story.proofs.Stable as st
 use Rattle.story.proofs.Effects.{same}
 use Rattle.story.proofs.Hands.{key-is, dummy-is, idle-key, idle-dummy}
@@ -61,6 +61,8 @@ pub record Core (h : Header) (ws : List Worker) (Ps : Pasts) (w k d : ℕ) (c m 
   pub dum-mine : (v : ℕ) → v < h .w → v ≢ w → d ≢ 0 → heldDummy (recordOf ws v) ≢ d
   pub whole : (n : ℕ) → n ≤ nodesOf h → standing m n ≡ TAKEN → In n c ⊎ ((k ≡ n) ⊎ (d ≡ n)) ⊎ Holder (h .w) ws w n
   pub waits : (n v : ℕ) → n ≤ nodesOf h → standing m n < 65536 → bit v (standing m n) ≡ 1 → bit v (h .busy) ≡ 1
+  pub keyed : (n : ℕ) → n ≤ nodesOf h → 1 ≤ standing m n → standing m n < 65536 → dummiesOf h < n
+  pub exact : (n : ℕ) → In n c → n ≤ dummiesOf h → OfBucket (h .m) (key m n)
   pub room : h .m ≤ length bs
   pub root₀ : bucket bs 0 ≢ 0
   pub root : (b : ℕ) → b < h .m → bucket bs b ≢ 0 → Root (dummiesOf h) c m b (bucket bs b)
@@ -125,6 +127,8 @@ module _ {h : Header} {ws : List Worker} {Ps : Pasts} {c m bs : List ℕ} (inv :
     dum-mine = λ v l ne z e. inv .apart w v lt l (omega arith) (omega arith) (λ q. ne (sym q)) .1 z (sym e);
     whole = λ n f t. ⊎-elim inl (λ o. inr (⊎-elim (⊎-elim (nobody n t) (nobody n t)) (λ a. by-who n a (ℕ-discrete (a .who) w)) o)) (inv .whole n f t);
     waits = inv .waits;
+    keyed = inv .keyed;
+    exact = inv .exact;
     room = inv .room;
     root₀ = inv .root₀;
     root = inv .root;
@@ -165,6 +169,8 @@ module _ {h : Header} {ws : List Worker} {Ps : Pasts} {w k d : ℕ} {c m bs : Li
     dum-mine = λ v l ne z. absurd (z refl);
     whole = λ n f t. ⊎-elim inl (λ o. inr (inr (⊎-elim (own n) (other n) o))) (core .whole n f t);
     waits = core .waits;
+    keyed = core .keyed;
+    exact = core .exact;
     room = core .room;
     root₀ = core .root₀;
     root = core .root;
@@ -219,6 +225,8 @@ pub record Shift (h : Header) (w k d k′ d′ g : ℕ) (c m c′ m′ : List �
   pub stays : (n : ℕ) → standing m′ n ≡ TAKEN → In n c → In n c′
   pub own : (n : ℕ) → standing m′ n ≡ TAKEN → (k ≡ n) ⊎ (d ≡ n) → In n c′ ⊎ ((k′ ≡ n) ⊎ (d′ ≡ n))
   pub waits : (n v : ℕ) → n ≤ nodesOf h → standing m′ n < 65536 → bit v (standing m′ n) ≡ 1 → bit v (h .busy) ≡ 1
+  pub keyed : (n : ℕ) → n ≤ nodesOf h → 1 ≤ standing m′ n → standing m′ n < 65536 → dummiesOf h < n
+  pub exact : (n : ℕ) → In n c′ → n ≤ dummiesOf h → OfBucket (h .m) (key m′ n)
   pub roots : (n : ℕ) → In n c → n ≤ dummiesOf h → In n c′ × (key m′ n ≡ key m n)
 
 module _ {h : Header} {ws : List Worker} {Ps : Pasts} {w k d : ℕ} {c m bs : List ℕ} (core : Core h ws Ps w k d c m bs)
@@ -273,6 +281,8 @@ module _ {h : Header} {ws : List Worker} {Ps : Pasts} {w k d : ℕ} {c m bs : Li
         (λ q. let f : standing m (heldDummy (x v)) ≡ TAKEN = dum-of v l ne (λ y. z (sym e ∙ y)) .is in omega (arith, rw e at f))) (s .dum-from);
     whole = λ n f t. ⊎-elim (λ t₀. ⊎-elim (λ i. inl (s .stays n t i)) (⊎-elim (λ o. mine (s .own n t o)) (λ o. inr (inr o))) (core .whole n f t₀)) (λ o. inr (inl o)) (s .was n f t);
     waits = s .waits;
+    keyed = s .keyed;
+    exact = s .exact;
     room = core .room;
     root₀ = core .root₀;
     root = λ b l ne. let o : Root (dummiesOf h) c m b (bucket bs b) = core .root b l ne in

@@ -15,13 +15,14 @@ use Rattle.header.specs.declared.Header.{Header}
 use Rattle.record.specs.declared.Worker.{Worker}
 use Rattle.record.specs.Worker.{idle, fresh, begun}
 use Rattle.moves.specs.Moves.{countUp, countDown}
-use Rattle.story.specs.Run.{State, workerOf, left, Run, state, Event, nothing, event}
-use Rattle.story.specs.Story.{uncountedIn, uncountedOut, sumOf, adds, removes, additions, removals, Count}
+use Rattle.register.specs.Events.{Event, nothing, adds, removes, all, uncountedIn, uncountedOut, sumOf}
+use Rattle.story.specs.Run.{State, workerOf, left, Run, state, event}
+use Rattle.story.specs.Story.{Count}
 use Rattle.story.proofs.Tally.{Tally, none}
 use Rattle.story.proofs.Calls.{Tale, refused, begins, goes, ends}
 use Rattle.story.proofs.Fresh.{Ready, ready, kept}
 use Rattle.story.proofs.Theorem.{Past, good, made-at}
-use Rattle.story.proofs.Keys.{bounded}
+use Rattle.story.proofs.Keys.{additions, removals, bounded}
 
 -- ---- the sum over the records, of which one changes
 module _ (f : Worker → ℕ) (ws : List Worker) (w : ℕ) (y : Worker) (fits : w < length ws) where
@@ -136,8 +137,8 @@ module _ (r : Run) (i : ℕ) (e : Sum r i) where
   unchanged : (f : Worker → ℕ) → state r (suc i) .workers ≡ s .workers → sumOf f (state r (suc i) .workers) (state r (suc i) .header .w) ≡ sumOf f (s .workers) (s .header .w)
   unchanged f ew = rw (ew, width) refl
 
-  adds-none : ev ≡ nothing → (adds ev + additions r i ≡ additions r i) × (removes ev + removals r i ≡ removals r i)
-  adds-none q = let a : adds ev ≡ 0 = ap adds q in let b : removes ev ≡ 0 = ap removes q in (omega arith, omega arith)
+  adds-none : ev ≡ nothing → (adds all ev + additions r i ≡ additions r i) × (removes all ev + removals r i ≡ removals r i)
+  adds-none q = let a : adds all ev ≡ 0 = ap (adds all) q in let b : removes all ev ≡ 0 = ap (removes all) q in (omega arith, omega arith)
 
   -- one record changes, and the count with it
   module _ (w : ℕ) (y : Worker) (lt : w < s .header .w) (ew : state r (suc i) .workers ≡ set (s .workers) w y) where
@@ -150,7 +151,7 @@ module _ (r : Run) (i : ℕ) (e : Sum r i) where
     by-tally : Tally (s .header .count) (state r (suc i) .header .count) (workerOf s w) y ev → Sum r (suc i)
     by-tally (inl q) =
         same-as (q .0) refl refl refl refl
-        (stays (s .header .count) (ins r i) (outs r i) (additions r i) (removals r i) (ins r (suc i)) (outs r (suc i)) (adds ev) (removes ev) (omega (arith, ci, q .1)) (omega (arith, co, q .2)) e)
+        (stays (s .header .count) (ins r i) (outs r i) (additions r i) (removals r i) (ins r (suc i)) (outs r (suc i)) (adds all ev) (removes all ev) (omega (arith, ci, q .1)) (omega (arith, co, q .2)) e)
     by-tally (inr (inl q)) =
         let n = adds-none (q .3) in
         same-as (q .0) refl (omega (arith, co, q .2)) (n .0) (n .1)
@@ -174,24 +175,24 @@ module _ (r : Run) (i : ℕ) (e : Sum r i) where
 sum : (r : Run) (i : ℕ) → Sum r i
 sum r zero = (rw z (omega arith), inl (omega (arith, z, a, b)))
   where
-    p : Ready (r .fresh .limits) (kept (r .first) (r .fresh)) (r .first)
-    p = ready (r .first) (r .fresh)
+    p : Ready (r .limits) (kept r) (state r 0)
+    p = ready r
 
-    z : r .first .header .count ≡ 0
+    z : state r 0 .header .count ≡ 0
     z = ap (λ (h : Header). h .count) (p .header)
 
-    rest : (v : ℕ) → v < r .first .header .w → getD (r .first .workers) v idle ≡ idle
+    rest : (v : ℕ) → v < state r 0 .header .w → getD (state r 0 .workers) v idle ≡ idle
     rest v l = p .rest v (rw (p .header) at l)
 
     a : ins r 0 ≡ 0
-    a = sum-idle uncountedIn none (r .first .workers) (r .first .header .w) rest
+    a = sum-idle uncountedIn none (state r 0 .workers) (state r 0 .header .w) rest
 
     b : outs r 0 ≡ 0
-    b = sum-idle uncountedOut none (r .first .workers) (r .first .header .w) rest
+    b = sum-idle uncountedOut none (state r 0 .workers) (state r 0 .header .w) rest
 sum r (suc i) = sum-suc r i (sum r i) (made-at r i (good r i) .tale)
 
 pub count : Count
 count r i =
     let e = sum r i in
     let b = bounds r i in
-    ⊎-elim (λ q. inl (omega (arith, b .few-in, b .few-out, b .above, b .below), q)) (λ q. inr (omega (arith, b .few-in, b .few-out, b .above, b .below), q)) (e .1)
+    ⊎-elim (λ q. inl (omega (arith, b .few-in, b .few-out, b .above, b .below), omega arith)) (λ q. inr (omega (arith, b .few-in, b .few-out, b .above, b .below), omega arith)) (e .1)

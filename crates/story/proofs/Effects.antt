@@ -13,7 +13,7 @@ use Rattle.sets.proofs.Laws.{bit-some, dropped-other}
 use Rattle.scans.specs.Scans.{leave}
 use Rattle.scans.proofs.Laws.{leave-set, leave-taken, leave-le}
 use Rattle.words.proofs.Laws.{nothing}
-use Rattle.story.specs.Run.{key, link, standing, after, mark}
+use Rattle.register.specs.Chain.{key, link, standing, after, mark}
 use Rattle.story.proofs.Chain.{putAfter, cutAfter, frame, insert, unlink, put-old, put-only, cut-old, cut-only, cut-gone, succ-in, some-on, root-on}
 use Rattle.story.proofs.Facts.{Waits, Prot, Held, Glob, Later}
 
@@ -394,7 +394,7 @@ leave-kinds : (w s : ℕ) → (s < 65536) ⊎ (s ≡ TAKEN) → (leave w s < 655
 leave-kinds w s (inl a) = inl (omega (arith, leave-le w s))
 leave-kinds w s (inr e) = inr (leave-taken w s (omega arith) ∙ e)
 
-leave-was : (w s : ℕ) → (s < 65536) ⊎ (s ≡ TAKEN) → 1 ≤ leave w s → leave w s < 65536 → (1 ≤ s) × (s < 65536)
+pub leave-was : (w s : ℕ) → (s < 65536) ⊎ (s ≡ TAKEN) → 1 ≤ leave w s → leave w s < 65536 → (1 ≤ s) × (s < 65536)
 leave-was w s (inl a) b d = (omega (arith, leave-le w s), a)
 leave-was w s (inr e) b d = absurd (omega (arith, leave-taken w s (omega arith)))
 

@@ -21,15 +21,14 @@ use Rattle.header.specs.Header.{dummiesOf, nodesOf, busied}
 use Rattle.header.specs.Rows.{PowerFromTo}
 use Rattle.record.specs.declared.Worker.{Worker}
 use Rattle.record.specs.Worker.{fresh, idle, begun, heldKey, heldDummy}
-use Rattle.story.specs.Run.{key, link, standing}
-use Rattle.story.specs.Story.{Same}
+use Rattle.register.specs.Chain.{key, link, standing}
 use Rattle.story.proofs.Memory
 use Rattle.story.proofs.Facts.{Root, Spot, i1, sz, tb, b2, b4, f1, f2, f3, f4, l2, b8, i8, i9, i10, d4a, d4b, d6, At, Sane, Busy, Fact}
 use Rattle.story.proofs.Stable.{Grows}
 use Rattle.story.proofs.Hands.{idle-key, idle-dummy}
 use Rattle.story.proofs.Core.{Pasts, recordOf, Core, Inv, shift, aside, back, not-idle}
-use Rattle.story.proofs.Effects.{swept, swept-later}
-use Rattle.story.proofs.Registers.{unchanged}
+use Rattle.story.proofs.Effects.{leave-was, swept, swept-later}
+use Rattle.story.proofs.Registers.{Same, unchanged}
 use Rattle.story.proofs.Acts.{free-key, free-dummy}
 
 -- ---- the header's words that calls change
@@ -79,6 +78,8 @@ module _ {h : Header} {ws : List Worker} {Ps : Pasts} {w k d : ℕ} {c m bs : Li
     dum-mine = core .dum-mine;
     whole = core .whole;
     waits = waits;
+    keyed = core .keyed;
+    exact = core .exact;
     room = core .room;
     root₀ = core .root₀;
     root = core .root;
@@ -108,6 +109,8 @@ module _ {h : Header} {ws : List Worker} {Ps : Pasts} {w k d : ℕ} {c m bs : Li
     dum-mine = core .dum-mine;
     whole = core .whole;
     waits = core .waits;
+    keyed = core .keyed;
+    exact = core .exact;
     room = rw (store-length bs b n) (core .room);
     root₀ = first (ℕ-discrete 0 b);
     root = λ i l. root i l (ℕ-discrete i b);
@@ -163,6 +166,14 @@ module _ {h : Header} {ws : List Worker} {Ps : Pasts} {w : ℕ} {c m bs : List �
           by (yes y) = absurd (omega (arith, dropped-same w (standing m (suc n)), rw (drop, y) at e))
           by (no y) = (core .waits (suc n) v b q (sym (dropped-other v w (standing m (suc n)) y) ∙ (rw drop at e)), y)
 
+  -- a node that waits afterwards waited before
+  keyed : (n : ℕ) → n ≤ nodesOf h → 1 ≤ standing m′ n → standing m′ n < 65536 → dummiesOf h < n
+  keyed zero b lo hi = absurd (omega (arith, nothing m′ 2))
+  keyed (suc n) b lo hi =
+      let e = ss (suc n) (omega arith) b in
+      let q = leave-was w (standing m (suc n)) (core .glob .kinds (suc n) b) (rw e at lo) (rw e at hi) in
+      core .keyed (suc n) b (q .0) (q .1)
+
   pub sweeps : Core h ws Ps w 0 0 c m′ bs
   sweeps = shift core {g = 0} (record {
     glob = swept (dummiesOf h) (nodesOf h) w c m m′ (core .glob) (sweep-length w (nodesOf h) m) sk sl ss;
@@ -176,6 +187,8 @@ module _ {h : Header} {ws : List Worker} {Ps : Pasts} {w : ℕ} {c m bs : List �
     stays = λ n t i. i;
     own = λ n t o. inr o;
     waits = λ n v b a e. still n v b a e .0;
+    keyed = keyed;
+    exact = λ n i b. rw (sk n) (core .exact n i b);
     roots = λ n i b. (i, sk n);
   })
 

@@ -17,7 +17,7 @@ use Rattle.header.specs.Header.{dummiesOf, nodesOf}
 use Rattle.header.specs.Rows.{PowerFromTo}
 use Rattle.record.specs.declared.Worker.{Worker}
 use Rattle.record.specs.Worker.{idle}
-use Rattle.story.specs.Run.{key, link, standing, mark}
+use Rattle.register.specs.Chain.{key, link, standing, mark}
 use Rattle.story.proofs.Chain.{Walk}
 
 -- worker v is waited for at node n
@@ -54,6 +54,12 @@ pub record Glob (D N : ℕ) (c m : List ℕ) : Type 0 where
   pub kinds : (n : ℕ) → n ≤ N → (standing m n < 65536) ⊎ (standing m n ≡ TAKEN)
   pub left : (n : ℕ) → n ≤ N → 1 ≤ standing m n → standing m n < 65536 → mark m n ≡ 1
   pub links : (n : ℕ) → n ≤ N → link m n ≤ N * 2 + 1
+
+-- k is the split key of some bucket's dummy
+pub record OfBucket (M k : ℕ) : Type 0 where
+  pub bucket : ℕ
+  pub real : bucket < M
+  pub has : k ≡ dummy bucket
 
 -- a bucket that is set has its dummy on the chain
 pub record Root (D : ℕ) (c m : List ℕ) (b n : ℕ) : Type 0 where

@@ -1,6 +1,6 @@
 -- A freshly prepared register keeps the invariant: node 1 is the chain, every other node is free, every record is idle.
 -- Assumes nothing.
-use mathlib.Core.Path.{_≡_, refl, sym, ap, subst, _∙_}
+use mathlib.Core.Path.{_≡_, refl, sym, ap, _∙_}
 use mathlib.Core.Logic.{_≢_, _⊎_, inl, inr}
 use mathlib.Core.Bool.{false}
 use mathlib.Core.List.{List, [], _∷_, List·Memᴰ as In, List·Memᴰ·head as here}
@@ -30,13 +30,15 @@ use Rattle.header.specs.Rows as rows
 use Rattle.header.proofs.Rows.{limits}
 use Rattle.record.specs.declared.Worker.{Worker}
 use Rattle.record.specs.Worker.{idle}
-use Rattle.register.specs.declared.Limits.{Limits}
-use Rattle.register.specs.declared.Verdict.{Verdict}
-use Rattle.register.specs.Calls.{Kept, isShort, freshHeader, prepareVerdict, preparedBy, prepared}
+use Rattle.prepare.specs.declared.Limits.{Limits}
+use Rattle.names.specs.declared.Verdict.{Verdict}
+use Rattle.prepare.specs.Prepare.{Kept, freshHeader, prepareVerdict, preparedBy, prepared}
+use Rattle.header.specs.Header.{isShort}
 use Rattle.crew.specs.Crew.{Left, tooFewFor, filled, idled, prepareAt}
 use Rattle.promises.specs.Fresh as fresh
 use Rattle.promises.proofs.Fresh.{prepare-fresh}
-use Rattle.story.specs.Run.{State, stateOf, Fresh, key, link, standing}
+use Rattle.register.specs.Chain.{key, link, standing}
+use Rattle.story.specs.Run.{State, stateOf, Run, state}
 use Rattle.story.proofs.Facts.{Root}
 use Rattle.story.proofs.Hands.{idle-key, idle-dummy}
 use Rattle.story.proofs.Core.{Pasts, recordOf, Inv}
@@ -143,6 +145,8 @@ module _ (l : Limits) (ns bs : List ℕ) (k : Kept) (f : fresh.Fresh l ns bs k) 
     dum-mine = λ v lt ne z. absurd (z refl);
     whole = λ n b t. wholes n t (cases n b);
     waits = λ n v b a e. absurd (waiting n v a e (cases n b));
+    keyed = λ n b a s. absurd (lefts n a s (cases n b));
+    exact = λ n i b. record { bucket = 0; real = omega (arith, lim .buckets .0); has = rw (is-one i) (keys 1 one ∙ sym dummy-zero) };
     room = rw (f .buckets-length) room;
     root₀ = λ e. omega (arith, f .first-bucket);
     root = λ b lt ne. roots b lt ne (ℕ-discrete b 0);
@@ -214,22 +218,20 @@ module _ (l : Limits) (h : Header) (ws : List Worker) (ns bs : List ℕ) where
   unfolding Readies
   is-ready = readies
 
-module _ (s : State) (fr : Fresh s) where
+module _ (r : Run) where
   abbrev pub kept : Kept
-  kept = prepared (fr .limits) (fr .header) (fr .nodes) (fr .buckets)
+  kept = prepared (r .limits) (r .lent .header) (r .lent .nodes) (r .lent .buckets)
 
-  pub ready : Ready (fr .limits) kept s
-  ready = subst (λ (t : State). Ready (fr .limits) kept t) (sym (fr .is)) (is-ready (fr .limits) (fr .header) (fr .workers) (fr .nodes) (fr .buckets) (fr .going))
+  pub ready : Ready (r .limits) kept (state r 0)
+  ready = is-ready (r .limits) (r .lent .header) (r .lent .workers) (r .lent .nodes) (r .lent .buckets) (r .fresh)
 
-  pub fresh-inv : (Ps : Pasts) → InvOf s Ps (1 ∷ [])
+  pub fresh-inv : (Ps : Pasts) → InvOf (state r 0) Ps (1 ∷ [])
   fresh-inv Ps =
-      let a = asked (fr .limits) (fr .header) (fr .nodes) (fr .buckets) (ready .going) in
-      let b = short (fr .limits) (fr .header) (fr .nodes) (fr .buckets) (a .1) in
+      let a = asked (r .limits) (r .lent .header) (r .lent .nodes) (r .lent .buckets) (ready .going) in
+      let b = short (r .limits) (r .lent .header) (r .lent .nodes) (r .lent .buckets) (a .1) in
       rw (ready .header, ready .nodes, ready .buckets)
-      (fresh-core (fr .limits) (fr .nodes) (fr .buckets) kept (prepare-fresh (fr .limits) (fr .header) (fr .nodes) (fr .buckets) (ready .going))
-      (limits (freshHeader (fr .limits)) .sound (a .0)) (b .0) (b .1) (s .workers) (ready .enough) (ready .rest) Ps)
+      (fresh-core (r .limits) (r .lent .nodes) (r .lent .buckets) kept (prepare-fresh (r .limits) (r .lent .header) (r .lent .nodes) (r .lent .buckets) (ready .going))
+      (limits (freshHeader (r .limits)) .sound (a .0)) (b .0) (b .1) (state r 0 .workers) (ready .enough) (ready .rest) Ps)
 
-  pub past-records : (v : ℕ) → fr .limits .w ≤ v → recordOf (s .workers) v ≡ recordOf (fr .workers) v
-  past-records v b =
-      ap (λ (t : State). recordOf (t .workers) v) (fr .is) ∙
-      leaves (fr .limits) (fr .header) (fr .workers) (fr .nodes) (fr .buckets) v b (fr .going)
+  pub past-records : (v : ℕ) → r .limits .w ≤ v → recordOf (state r 0 .workers) v ≡ recordOf (r .lent .workers) v
+  past-records v b = leaves (r .limits) (r .lent .header) (r .lent .workers) (r .lent .nodes) (r .lent .buckets) v b (r .fresh)

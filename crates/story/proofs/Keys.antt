@@ -7,85 +7,24 @@ use mathlib.Core.List.{List, [], _∷_, List·Memᴰ as In, List·Memᴰ·head a
 use Prim.Native.Nat.{ℕ, zero, suc, _+_, _≤_, _<_}
 use native.Mathlib.Omega.{arith}
 use native.Mathlib.Decide.{ℕ-discrete}
-use lib.Dec.{eqb}
 use lib.ListN.{length}
-use Rattle.choice.specs.Choice.{pick}
-use Rattle.choice.proofs.Cases.{by-eq}
 use Rattle.split.specs.Split.{regular}
 use Rattle.split.proofs.Laws.{regular-inj}
 use Rattle.names.specs.Names.{IDLE, KEY-LIMIT}
 use Rattle.header.specs.Header.{nodesOf, dummiesOf}
 use Rattle.record.specs.declared.Worker.{Worker}
-use Rattle.story.specs.Run.{workerOf, left, Run, state, key, Registered, Event, nothing, added, removed, event}
-use Rattle.story.specs.Story.{Change, adds, removes, additions, removals}
+use Rattle.register.specs.Chain.{key, Registered}
+use Rattle.register.specs.Events.{Event, nothing, added, removed, adds, removes, all}
+use Rattle.story.specs.Run.{workerOf, left, Run, state, event, eventAt}
+use Rattle.story.specs.Story.{tallied}
+use Rattle.story.proofs.Registers.{Change}
+use Rattle.story.proofs.Distinct.{without, Distinct, was-in, stays-in, still-distinct, gone, one-less, pigeonhole}
 use Rattle.story.proofs.Chain.{on-in, some-on}
 use Rattle.story.proofs.Facts.{Glob, Fact}
 use Rattle.story.proofs.Steps.{tookAt, Turned}
+use Rattle.story.proofs.Tally.{one}
 use Rattle.story.proofs.Calls.{Tale, refused, begins, goes, ends}
-use Rattle.story.proofs.Theorem.{Past, good, made-at, step-law, none-yet}
-
--- ---- a list without a number
-abbrev without : ℕ → List ℕ → List ℕ
-without x [] = []
-without x (n ∷ ns) = pick (eqb n x) ns (n ∷ without x ns)
-
-abbrev Distinct : List ℕ → Type 0
-Distinct [] = Unit {0}
-Distinct (n ∷ ns) = (In n ns → ⊥) × Distinct ns
-
-was-in : (x : ℕ) (ns : List ℕ) {y : ℕ} → In y (without x ns) → In y ns
-was-in x [] i = i
-was-in x (n ∷ ns) {y} i = by-eq (λ (l : List ℕ). In y l → In y (n ∷ ns)) n x (λ _ j. there j) (λ _ j. on (was-in x ns) j) i
-  where
-    on : (In y (without x ns) → In y ns) → In y (n ∷ without x ns) → In y (n ∷ ns)
-    on rest (here e) = here e
-    on rest (there i) = there (rest i)
-
-stays-in : (x : ℕ) (ns : List ℕ) {y : ℕ} → y ≢ x → In y ns → In y (without x ns)
-stays-in x (n ∷ ns) {y} ne i = by-eq (λ (l : List ℕ). In y l) n x (λ e. past e i) (λ _. on (stays-in x ns ne) i)
-  where
-    past : n ≡ x → In y (n ∷ ns) → In y ns
-    past e (here q) = absurd (ne (q ∙ e))
-    past e (there j) = j
-
-    on : (In y ns → In y (without x ns)) → In y (n ∷ ns) → In y (n ∷ without x ns)
-    on rest (here q) = here q
-    on rest (there j) = there (rest j)
-
-still-distinct : (x : ℕ) (ns : List ℕ) → Distinct ns → Distinct (without x ns)
-still-distinct x [] d = tt
-still-distinct x (n ∷ ns) d = by-eq (λ (l : List ℕ). Distinct l) n x (λ _. d .1) (λ _. (λ i. d .0 (was-in x ns i), still-distinct x ns (d .1)))
-
-gone : (x : ℕ) (ns : List ℕ) → Distinct ns → In x (without x ns) → ⊥
-gone x [] d i = List·Memᴰ·not-nil i
-gone x (n ∷ ns) d i₀ = by-eq (λ (l : List ℕ). In x l → ⊥) n x (λ e i. d .0 (Memᴰ·cast e i)) (λ ne i. on ne (gone x ns (d .1)) i) i₀
-  where
-    on : n ≢ x → (In x (without x ns) → ⊥) → In x (n ∷ without x ns) → ⊥
-    on ne rest (here q) = ne (sym q)
-    on ne rest (there i) = rest i
-
-less-one : (x : ℕ) (ns : List ℕ) → length ns ≤ suc (length (without x ns))
-less-one x [] = omega arith
-less-one x (n ∷ ns) = by-eq (λ (l : List ℕ). suc (length ns) ≤ suc (length l)) n x (λ _. omega arith) (λ _. omega (arith, less-one x ns))
-
-one-less : (x : ℕ) (ns : List ℕ) → In x ns → length ns ≡ suc (length (without x ns))
-one-less x (n ∷ ns) i = by-eq (λ (l : List ℕ). suc (length ns) ≡ suc (length l)) n x (λ _. refl) (λ ne. on ne (one-less x ns) i)
-  where
-    on : n ≢ x → (In x ns → length ns ≡ suc (length (without x ns))) → In x (n ∷ ns) → suc (length ns) ≡ suc (suc (length (without x ns)))
-    on ne rest (here q) = absurd (ne (sym q))
-    on ne rest (there j) = ap suc (rest j)
-
--- ---- the pigeonhole: distinct numbers from 1 to N are at most N
-pigeonhole : (N : ℕ) (ns : List ℕ) → Distinct ns → ((n : ℕ) → In n ns → (1 ≤ n) × (n ≤ N)) → length ns ≤ N
-pigeonhole zero [] d b = omega arith
-pigeonhole zero (n ∷ ns) d b = absurd (omega (arith, b n (here refl) .0, b n (here refl) .1))
-pigeonhole (suc N) ns d b = omega (arith, less-one (suc N) ns, pigeonhole N (without (suc N) ns) (still-distinct (suc N) ns d) inside)
-  where
-    inside : (n : ℕ) → In n (without (suc N) ns) → (1 ≤ n) × (n ≤ N)
-    inside n i =
-        let q = b n (was-in (suc N) ns i) in
-        let ne : n ≢ suc N = λ e. gone (suc N) ns d (Memᴰ·cast (sym e) i) in
-        (q .0, omega (arith, q .1, ne))
+use Rattle.story.proofs.Theorem.{Past, good, made-at, changes, none-yet}
 
 -- ---- the nodes of a list of registered keys
 module _ (D N : ℕ) (c m : List ℕ) (g : Glob D N c m) where
@@ -163,7 +102,7 @@ listBy nothing ks = ks
 listBy (added k) ks = k ∷ ks
 listBy (removed k) ks = without k ks
 
-listed : (a b ks : List ℕ) (up down : ℕ) (ev : Event) → Change a b ev → Limited ev → Listed a ks up down → Listed b (listBy ev ks) (adds ev + up) (removes ev + down)
+listed : (a b ks : List ℕ) (up down : ℕ) (ev : Event) → Change a b ev → Limited ev → Listed a ks up down → Listed b (listBy ev ks) (adds all ev + up) (removes all ev + down)
 listed a b ks up down nothing c l o = record {
   distinct = o .distinct;
   there-all = λ k i. (c k .still (o .there-all k i .0), o .there-all k i .1);
@@ -174,7 +113,7 @@ listed a b ks up down (added j) c l o = record {
   distinct = (λ i. c .before (o .there-all j i .0), o .distinct);
   there-all = there-all;
   all-there = λ k p q. by k p q (ℕ-discrete k j);
-  total = omega (arith, o .total);
+  total = omega (arith, o .total, one);
 }
   where
     there-all : (k : ℕ) → In k (j ∷ ks) → Registered b k × (k ≤ KEY-LIMIT)
@@ -189,8 +128,15 @@ listed a b ks up down (removed j) c l o = record {
   there-all = λ k i. let q = o .there-all k (was-in j ks i) in
       (c .others k (q .1) (λ e. gone j ks (o .distinct) (Memᴰ·cast (sym e) i)) .still (q .0), q .1);
   all-there = λ k p q. let ne : k ≢ j = λ e. c .after (rw e at q) in stays-in j ks ne (o .all-there k p (c .others k p ne .already q));
-  total = omega (arith, o .total, one-less j ks (o .all-there j l (c .before)));
+  total = omega (arith, o .total, one, one-less j ks (o .all-there j l (c .before)));
 }
+
+-- inserts and deletes in effect in the first i calls
+abbrev pub additions : Run → ℕ → ℕ
+additions r i = tallied (adds all) (eventAt r) i
+
+abbrev pub removals : Run → ℕ → ℕ
+removals r i = tallied (removes all) (eventAt r) i
 
 pub record Listing (r : Run) (i : ℕ) : Type 0 where
   ks : List ℕ
@@ -203,7 +149,7 @@ listing r zero = record { ks = []; is = record { distinct = tt; there-all = λ k
     nobody i = List·Memᴰ·not-nil i
 listing r (suc i) =
     let o = listing r i in
-    record { ks = listBy (event (state r i) (r .call i)) (o .ks); is = listed (state r i .nodes) (state r (suc i) .nodes) (o .ks) (additions r i) (removals r i) (event (state r i) (r .call i)) (step-law r i) (limited r i) (o .is) }
+    record { ks = listBy (event (state r i) (r .call i)) (o .ks); is = listed (state r i .nodes) (state r (suc i) .nodes) (o .ks) (additions r i) (removals r i) (event (state r i) (r .call i)) (changes r i) (limited r i) (o .is) }
 
 -- inserts in effect less deletes in effect: not below 0, and not above the nodes
 pub bounded : (r : Run) (i : ℕ) → (removals r i ≤ additions r i) × (additions r i ≤ removals r i + nodesOf (state r i .header))

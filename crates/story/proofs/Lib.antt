@@ -1,4 +1,5 @@
 pub mod Memory
+pub mod Distinct
 pub mod Chain
 pub mod Facts
 pub mod Stable
@@ -8,6 +9,7 @@ pub mod Core
 pub mod Registers
 pub mod Acts
 pub mod Ends
+pub mod Dummies
 pub mod Steps
 pub mod Search
 pub mod Buckets
@@ -16,6 +18,7 @@ pub mod Sound
 pub mod Tally
 pub mod Calls
 pub mod Fresh
+pub mod Spans
 pub mod Theorem
 pub mod OnePlace
 pub mod Moments

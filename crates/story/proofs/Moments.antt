@@ -13,13 +13,15 @@ use lib.Seq.{getD-set-same, getD-set-other}
 use borrow.Author.Tests.{ne-eqb, eq-eqb}
 use Rattle.choice.proofs.Auto.{pick-true, pick-false}
 use Rattle.choice.proofs.Cases.{both}
-use Rattle.names.specs.Names.{IDLE, INSERT, numberOf}
+use Rattle.names.specs.Names.{IDLE, INSERT, FIND, DELETE, numberOf}
 use Rattle.names.specs.declared.Answer.{Answer}
-use Rattle.names.specs.declared.Answer.the-variants.{Going}
+use Rattle.names.specs.declared.Answer.the-variants.{Going, Yes}
 use Rattle.record.specs.declared.Worker.{Worker}
 use Rattle.record.specs.Worker.{idle, fresh, begun}
-use Rattle.story.specs.Run.{State, workerOf, Call, start, step, left, answer, Run, state, key, Event, nothing, added, removed, event}
-use Rattle.story.specs.Story.{startsOf, began, owns, effects, OwnEvent}
+use Rattle.register.specs.Chain.{key}
+use Rattle.register.specs.Events.{Event, nothing, added, removed, Says, yes-insert, yes-delete, yes-find}
+use Rattle.story.specs.Run.{State, workerOf, Call, start, step, left, answer, Run, state, event, eventAt}
+use Rattle.story.proofs.Spans.{startsOf, began, owns, effects}
 use Rattle.story.proofs.Steps.{tookAt, Turned}
 use Rattle.story.proofs.Calls.{Tale, refused, begins, goes, ends}
 use Rattle.story.proofs.Fresh.{Ready, ready, kept as left-by}
@@ -61,13 +63,30 @@ owns-one w nothing ne = absurd (ne refl)
 owns-one w (added k) ne = pick-true {A = ℕ} (eqb w w) 1 0 (eq-eqb w w refl)
 owns-one w (removed k) ne = pick-true {A = ℕ} (eqb w w) 1 0 (eq-eqb w w refl)
 
+-- ---- what a yes says of its own event
+pub says-added : {k j kind : ℕ} {ev : Event} → ev ≡ added k → kind ≡ INSERT → k ≡ j → Says j ⊥ kind Yes ev
+says-added e q p = rw (e, q, p) yes-insert
+
+pub says-removed : {k j kind : ℕ} {ev : Event} → ev ≡ removed k → kind ≡ DELETE → k ≡ j → Says j ⊥ kind Yes ev
+says-removed e q p = rw (e, q, p) yes-delete
+
+pub says-some : {k kind : ℕ} {ev : Event} → Says k ⊥ kind Yes ev → ev ≢ nothing
+says-some yes-insert e = let z : _≡_ {A = ℕ} 0 1 = cc in omega arith
+says-some yes-delete e = let z : _≡_ {A = ℕ} 0 1 = cc in omega arith
+says-some (yes-find n) e = n
+
+pub says-effect : {k kind : ℕ} {ev : Event} → Says k ⊥ kind Yes ev → kind ≢ FIND
+says-effect yes-insert e = omega arith
+says-effect yes-delete e = omega arith
+says-effect (yes-find n) e = n
+
 -- ---- the operation in progress
 pub record EventIn (r : Run) (i w kind k : ℕ) : Type 0 where
   pub call : ℕ
   pub from : began r w i < call
   pub upto : call < i
   pub own : r .call call ≡ step w
-  pub what : OwnEvent kind k (event (state r call) (step w))
+  pub what : Says k ⊥ kind Yes (eventAt r call)
 
 pub record Op (r : Run) (i w : ℕ) (x : Worker) : Type 0 where
   pub started : r .call (began r w i) ≡ start w (x .kind) (x .key)
@@ -128,17 +147,17 @@ module _ (r : Run) (i w : ℕ) (o : Ops r i w (workerOf (state r i) w)) (lt : w 
     kept : (began r w (suc i) ≡ began r w i) × (effects r w (suc i) ≡ owns w (r .call i) ev + effects r w i)
     kept = still r i w (rw ec refl)
 
-    mine : owns w (r .call i) ev ≡ owns w (step w) (event s (step w))
-    mine = rw ec refl
+    mine : owns w (r .call i) ev ≡ owns w (step w) ev
+    mine = ap (λ (c : Call). owns w c ev) ec
 
     p : Op r i w x
     p = o .busy nb
 
     -- it took effect in this call
-    now : OwnEvent (x .kind) (x .key) (event s (step w)) → event s (step w) ≢ nothing → tookAt x ≡ false → tookAt y ≡ true → Ops r (suc i) w y
-    now what ne f t =
+    now : Says (x .key) ⊥ (x .kind) Yes ev → tookAt x ≡ false → tookAt y ≡ true → Ops r (suc i) w y
+    now what f t =
         let z : effects r w i ≡ 0 = ⊎-elim (λ q. absurd (true≢false (sym (q .0) ∙ f))) (λ q. q .1) (p .flag) in
-        let one : effects r w (suc i) ≡ 1 = kept .1 ∙ omega (arith, mine, owns-one w (event s (step w)) ne) in
+        let one : effects r w (suc i) ≡ 1 = kept .1 ∙ omega (arith, mine, owns-one w ev (says-some what)) in
         record {
           few = omega arith;
           busy = λ _. record {
@@ -149,7 +168,7 @@ module _ (r : Run) (i w : ℕ) (o : Ops r i w (workerOf (state r i) w)) (lt : w 
         }
 
     -- it did not
-    quiet : event s (step w) ≡ nothing → tookAt y ≡ tookAt x → Ops r (suc i) w y
+    quiet : ev ≡ nothing → tookAt y ≡ tookAt x → Ops r (suc i) w y
     quiet e t =
         let ee : effects r w (suc i) ≡ effects r w i = kept .1 ∙ none-more (mine ∙ ap (owns w (step w)) e) in
         let q = same-op r i w x (kept .0) ee o in
@@ -162,13 +181,13 @@ module _ (r : Run) (i w : ℕ) (o : Ops r i w (workerOf (state r i) w)) (lt : w 
           };
         }
 
-    by-event : (e : Event) → event s (step w) ≡ e → Turned x (tookAt x) (tookAt y) e → Ops r (suc i) w y
+    by-event : (e : Event) → ev ≡ e → Turned x (tookAt x) (tookAt y) e → Ops r (suc i) w y
     by-event nothing e t = quiet e t
-    by-event (added k) e t = now (inl (t .2, e ∙ ap added (t .3))) (λ q. let z : _≡_ {A = ℕ} 0 1 = cc in omega arith) (t .0) (t .1)
-    by-event (removed k) e t = now (inr (t .2, e ∙ ap removed (t .3))) (λ q. let z : _≡_ {A = ℕ} 0 1 = cc in omega arith) (t .0) (t .1)
+    by-event (added k) e t = now (says-added e (t .2) (t .3)) (t .0) (t .1)
+    by-event (removed k) e t = now (says-removed e (t .2) (t .3)) (t .0) (t .1)
 
     own-step : Turned x (tookAt x) (tookAt y) ev → Ops r (suc i) w (workerOf (state r (suc i)) w)
-    own-step t = rw (here-is y ew) (by-event (event s (step w)) refl (rw ec at t))
+    own-step t = rw (here-is y ew) (by-event ev refl t)
 
   ops-suc : Tale s (Past r i) (r .call i) (left s (r .call i)) ev → Ops r (suc i) w (workerOf (state r (suc i)) w)
   ops-suc (refused ew en lo hi hc) =
@@ -209,8 +228,8 @@ module _ (r : Run) (i w : ℕ) (o : Ops r i w (workerOf (state r i) w)) (lt : w 
 pub ops : (r : Run) (i w : ℕ) → w < state r i .header .w → Ops r i w (workerOf (state r i) w)
 ops r zero w lt = record { few = omega arith; busy = λ ne. absurd (ne (ap (λ (x : Worker). x .place) (p .rest w (rw (p .header) at lt)))) }
   where
-    p : Ready (r .fresh .limits) (left-by (r .first) (r .fresh)) (r .first)
-    p = ready (r .first) (r .fresh)
+    p : Ready (r .limits) (left-by r) (state r 0)
+    p = ready r
 ops r (suc i) w lt =
     let m = made-at r i (good r i) in
     let l : w < state r i .header .w = omega (arith, m .sizes .2) in

@@ -1,45 +1,35 @@
 -- A node's standing says which of the four it is, and the chain and the hands of the workers share no node.
 -- Assumes nothing.
 use mathlib.Core.Path.{_≡_, refl, sym, ap, _∙_}
-use mathlib.Core.Logic.{_⊎_, inl, inr, ⊎-elim}
+use mathlib.Core.Logic.{⊎-elim}
 use mathlib.Core.List.{List, List·Memᴰ as In}
 use Prim.Native.Nat.{ℕ, zero, suc, _*_, _≤_, _<_}
 use native.Mathlib.Omega.{arith}
 use native.Mathlib.Decide.{ℕ-discrete}
-use borrow.Author.Tests.{le-leb}
 use lib.Dec.{ltb}
 use lib.ListN.{length, getD, set}
 use lib.Seq.{getD-set-other}
 use Rattle.choice.proofs.Cases.{by-bool}
 use Rattle.words.specs.Words.{TAKEN}
-use Rattle.sets.specs.Sets.{bit}
-use Rattle.sets.proofs.Laws.{bit-some}
 use Rattle.header.specs.declared.Header.{Header}
-use Rattle.header.specs.Header.{nodesOf, dummiesOf, busyBeyond}
-use Rattle.header.proofs.Rows.{busy-beyond}
+use Rattle.header.specs.Header.{nodesOf, dummiesOf}
 use Rattle.record.specs.declared.Worker.{Worker}
 use Rattle.record.specs.Worker.{idle, begun, heldKey, heldDummy}
-use Rattle.register.specs.declared.Limits.{Limits}
-use Rattle.register.specs.Calls.{Kept, freshHeader}
+use Rattle.prepare.specs.declared.Limits.{Limits}
+use Rattle.prepare.specs.Prepare.{Kept, freshHeader}
 use Rattle.promises.specs.Fresh as F
 use Rattle.crew.specs.Crew.{Left, turnAt, startAt, stepAt}
 use Rattle.promises.proofs.Fresh.{prepare-fresh}
 use Rattle.promises.proofs.WritesOnly.{beyond-kept}
-use Rattle.story.specs.Run.{State, workerOf, Call, start, step, left, Run, state, standing, On, event}
-use Rattle.story.specs.Story.{Free, Holds, HeldByOne, Waiting, OneOf, OnePlace, PastKept}
+use Rattle.register.specs.Chain.{standing, On}
+use Rattle.story.specs.Run.{State, workerOf, Call, start, step, left, Run, state, event}
+use Rattle.story.specs.Story.{Where, free, chained, held, waiting, At, OnePlace, PastKept}
 use Rattle.story.proofs.Chain.{on-in, in-on}
 use Rattle.story.proofs.Facts.{Held}
-use Rattle.story.proofs.Core.{Pasts, fact-key, fact-dummy, Holder}
+use Rattle.story.proofs.Core.{Pasts, fact-key, fact-dummy}
 use Rattle.story.proofs.Calls.{InvOf, Tale, refused, begins, goes, ends}
 use Rattle.story.proofs.Fresh.{ready, kept, past-records}
 use Rattle.story.proofs.Theorem.{Past, good, made-at}
-
--- a set that is not empty has a worker
-some-bit : (s : ℕ) → 1 ≤ s → (v : ℕ) × (bit v s ≡ 1)
-unfolding busyBeyond
-some-bit s b =
-    let p = busy-beyond (record { m = 0; k = 0; w = 0; l = 0; size = 0; count = 0; busy = s }) .sound (le-leb 1 s b) in
-    (p .0, p .2)
 
 module _ (s : State) (Ps : Pasts) (c : List ℕ) (inv : InvOf s Ps c) (n : ℕ) (low : 1 ≤ n) (high : n ≤ nodesOf (s .header)) where
   abbrev W : ℕ
@@ -55,10 +45,10 @@ module _ (s : State) (Ps : Pasts) (c : List ℕ) (inv : InvOf s Ps c) (n : ℕ) 
   in-dummy : (w : ℕ) → w < W → heldDummy (workerOf s w) ≡ n → Held 0 (dummiesOf (s .header)) c m n
   in-dummy w lt e = rw e at (fact-dummy (s .header) w c m (Ps w) (workerOf s w) (inv .fact w lt (omega arith)) (λ z. omega (arith, e)))
 
-  taken : {w : ℕ} → Holds s w n → (standing m n ≡ TAKEN) × (In n c → ⊥)
+  taken : {w : ℕ} → At s n (held w) → (standing m n ≡ TAKEN) × (In n c → ⊥)
   taken {w} h = ⊎-elim (λ e. let q = in-key w (h .0) e in (q .is, q .off)) (λ e. let q = in-dummy w (h .0) e in (q .is, q .off)) (h .1)
 
-  one-hand : (u v : ℕ) → Holds s u n → Holds s v n → Dec (u ≡ v) → u ≡ v
+  one-hand : (u v : ℕ) → At s n (held u) → At s n (held v) → Dec (u ≡ v) → u ≡ v
   one-hand u v a b (yes e) = e
   one-hand u v a b (no ne) = absurd (⊎-elim
       (λ e. ⊎-elim (λ f. inv .apart u v (a .0) (b .0) (omega (arith, a .0)) (omega (arith, b .0)) ne .0 (λ z. omega (arith, e)) (e ∙ sym f))
@@ -66,30 +56,44 @@ module _ (s : State) (Ps : Pasts) (c : List ℕ) (inv : InvOf s Ps c) (n : ℕ) 
       (λ e. ⊎-elim (λ f. omega (arith, in-dummy u (a .0) e .high, in-key v (b .0) f .low))
       (λ f. inv .apart u v (a .0) (b .0) (omega (arith, a .0)) (omega (arith, b .0)) ne .1 (λ z. omega (arith, e)) (e ∙ sym f)) (b .1)) (a .1))
 
+  in-chain : On m n → In n c
+  in-chain o = on-in m c (inv .glob .walk) o
+
   on-taken : On m n → standing m n ≡ TAKEN
-  on-taken o = inv .glob .is n (on-in m c (inv .glob .walk) o)
+  on-taken o = inv .glob .is n (in-chain o)
 
-  pub exactly-one : OneOf (Free s n) (HeldByOne s n) (On m n) (Waiting s n)
-  exactly-one = record {
-    one = ⊎-elim (λ l. set l (ℕ-discrete (standing m n) 0)) whole (inv .glob .kinds n high);
-    ab = λ f h. omega (arith, f .is, taken (h .holds) .0);
-    ac = λ f o. omega (arith, f .is, on-taken o);
-    ad = λ f w. omega (arith, f .is, bit-some (w .some .0) (standing m n) (w .some .1));
-    bc = λ h o. taken (h .holds) .1 (on-in m c (inv .glob .walk) o);
-    bd = λ h w. omega (arith, taken (h .holds) .0, w .set);
-    cd = λ o w. omega (arith, on-taken o, w .set);
-  }
+  -- a node that is in two places is in one
+  same-place : (p q : Where) → At s n p → At s n q → q ≡ p
+  same-place free free a b = refl
+  same-place free (held w) a b = absurd (omega (arith, taken b .0))
+  same-place free chained a b = absurd (omega (arith, on-taken b))
+  same-place free (waiting t) a b = absurd (omega (arith, b .0, b .1))
+  same-place (held w) free a b = absurd (omega (arith, taken a .0))
+  same-place (held w) (held v) a b = ap held (one-hand v w b a (ℕ-discrete v w))
+  same-place (held w) chained a b = absurd (taken a .1 (in-chain b))
+  same-place (held w) (waiting t) a b = absurd (omega (arith, taken a .0, b .0, b .2))
+  same-place chained free a b = absurd (omega (arith, on-taken a))
+  same-place chained (held w) a b = absurd (taken b .1 (in-chain a))
+  same-place chained chained a b = refl
+  same-place chained (waiting t) a b = absurd (omega (arith, on-taken a, b .0, b .2))
+  same-place (waiting t) free a b = absurd (omega (arith, a .0, a .1))
+  same-place (waiting t) (held w) a b = absurd (omega (arith, taken b .0, a .0, a .2))
+  same-place (waiting t) chained a b = absurd (omega (arith, on-taken b, a .0, a .2))
+  same-place (waiting t) (waiting u) a b = ap waiting (sym (b .0) ∙ a .0)
+
+  somewhere : (p : Where) × At s n p
+  somewhere = ⊎-elim (λ l. set l (ℕ-discrete (standing m n) 0)) whole (inv .glob .kinds n high)
     where
-      set : standing m n < 65536 → Dec (standing m n ≡ 0) → Free s n ⊎ HeldByOne s n ⊎ On m n ⊎ Waiting s n
-      set l (yes e) = inl (record { is = e })
-      set l (no ne) = inr (inr (inr (record { set = omega arith; some = some-bit (standing m n) (omega (arith, ne)); busy = λ v b. inv .waits n v high l b })))
+      set : standing m n < 65536 → Dec (standing m n ≡ 0) → (p : Where) × At s n p
+      set l (yes e) = (free, e)
+      set l (no ne) = (waiting (standing m n), (refl, omega (arith, ne), omega arith, λ v b. inv .waits n v high l b))
 
-      held : Holder W (s .workers) W n → HeldByOne s n
-      held h = let o : Holds s (h .who) n = (h .real, h .has) in record { who = h .who; holds = o; only = λ v q. one-hand v (h .who) q o (ℕ-discrete v (h .who)) }
+      whole : standing m n ≡ TAKEN → (p : Where) × At s n p
+      whole t = ⊎-elim (λ i. (chained, in-on m c (inv .glob .walk) i))
+          (⊎-elim (⊎-elim (λ e. absurd (omega arith)) (λ e. absurd (omega arith))) (λ h. (held (h .who), (h .real, h .has)))) (inv .whole n high t)
 
-      whole : standing m n ≡ TAKEN → Free s n ⊎ HeldByOne s n ⊎ On m n ⊎ Waiting s n
-      whole t = ⊎-elim (λ i. inr (inr (inl (in-on m c (inv .glob .walk) i))))
-          (⊎-elim (⊎-elim (λ e. absurd (omega arith)) (λ e. absurd (omega arith))) (λ h. inr (inl (held h)))) (inv .whole n high t)
+  pub exactly-one : (p : Where) × At s n p × ((q : Where) → At s n q → q ≡ p)
+  exactly-one = let k = somewhere in (k .0, k .1, λ q b. same-place (k .0) q (k .1) b)
 
 pub one-place : OnePlace
 one-place r i n low high = let g = good r i in exactly-one (state r i) (Past r i) (g .chain) (g .inv) n low high
@@ -133,12 +137,11 @@ call-record r i n b = by (made-at r i (good r i) .tale)
 
 pub past-kept : PastKept
 past-kept r zero n =
-    let p = ready (r .first) (r .fresh) in
-    let f = r .fresh in
-    let q = fresh-past (f .limits) (f .nodes) (f .buckets) (kept (r .first) f) (prepare-fresh (f .limits) (f .header) (f .nodes) (f .buckets) (p .going))
-    (r .first .header) (r .first .nodes) (r .first .buckets) (p .header) (p .nodes) (p .buckets) n in
-    let e : r .first .header .w ≡ f .limits .w = ap (λ (h : Header). h .w) (p .header) in
-    (q .0, q .1, λ b. past-records (r .first) f n (omega arith))
+    let p = ready r in
+    let q = fresh-past (r .limits) (r .lent .nodes) (r .lent .buckets) (kept r) (prepare-fresh (r .limits) (r .lent .header) (r .lent .nodes) (r .lent .buckets) (p .going))
+    (state r 0 .header) (state r 0 .nodes) (state r 0 .buckets) (p .header) (p .nodes) (p .buckets) n in
+    let e : state r 0 .header .w ≡ r .limits .w = ap (λ (h : Header). h .w) (p .header) in
+    (q .0, q .1, λ b. past-records r n (omega arith))
 past-kept r (suc i) n =
     let s = made-at r i (good r i) .sizes in
     let c = call-past (state r i) (r .call i) n in

@@ -26,11 +26,11 @@ use Rattle.header.specs.Rows.{PowerFromTo}
 use Rattle.record.specs.declared.Worker.{Worker}
 use Rattle.record.specs.Fields.{to, withErrand, withSize, withHeld}
 use Rattle.record.specs.Worker.{heldKey, heldDummy}
-use Rattle.moves.specs.declared.Effect.the-variants.{Take, Aim, Place, Mark, Unlink}
-use Rattle.moves.specs.declared.Move.the-variants.{Going}
+use Rattle.acts.specs.declared.Effect.the-variants.{Take, Aim, Place, Mark, Unlink}
+use Rattle.acts.specs.declared.Move.the-variants.{Going}
 use Rattle.moves.specs.Moves.{badLink, heldFor, placed, l2, i1, i8, i9, i10, d4a, d4b, d6, countUp, countDown}
-use Rattle.story.specs.Run.{key, link, standing, Event, nothing, added}
-use Rattle.story.specs.Story.{Same}
+use Rattle.register.specs.Chain.{key, link, standing}
+use Rattle.register.specs.Events.{Event, nothing, added}
 use Rattle.story.proofs.Chain.{putAfter, cutAfter, put-new}
 use Rattle.story.proofs.Memory.{key-of-link}
 use Rattle.story.proofs.Facts as F
@@ -109,13 +109,14 @@ module _ {h : Header} {ws : List Worker} {Ps Qs : Pasts} {w : ℕ} {c m bs : Lis
     no-absent = λ a k. let f : _≡_ {A = ℕ} 0 1 = cc in absurd (omega arith);
     done = λ a k. refl;
     undone = λ a. absurd (a refl);
+    below = omega arith;
   }
 
   -- I1: the key node that is free is taken
   pub i1-good : Stands z F.i1 → F.At h w c m (Ps w) F.i1 x → Good z false (i1 (seen h x (lowest m (D + 1) N) 0))
   unfolding i1
   i1-good s b = by-eq (Good z false) n 0
-      (λ _. over z false NoKeyNode c m (core z) unmoved (told-neither (λ a. let f : _≡_ {A = ℕ} 0 1 = cc in omega arith) (λ a. let f : _≡_ {A = ℕ} 0 1 = cc in omega arith)))
+      (λ _. over z false NoKeyNode c m (core z) unmoved (told-neither (λ a. let f : _≡_ {A = ℕ} 0 1 = cc in omega arith) (λ a. let f : _≡_ {A = ℕ} 0 1 = cc in omega arith) (omega arith)))
       takes
     where
       n : ℕ
@@ -368,7 +369,7 @@ module _ {h : Header} {ws : List Worker} {Ps Qs : Pasts} {w : ℕ} {c m bs : Lis
             p = put (put m n LINK (linkTo (x .cur) false)) (x .prev) LINK (linkTo n false)
 
             pk : (j : ℕ) → key p j ≡ key m j
-            pk = A.place-key-is (core z) n (x .cur) 0 D hh (omega arith) (s .sane .8) (x .prev) (dummy (x .making)) i e (s .dum-has some) low high (λ _. is-even) (λ l. absurd (omega (arith, hh .high)))
+            pk = A.place-key-is (core z) n (x .cur) 0 D hh (omega arith) (s .sane .8) (x .prev) (dummy (x .making)) i e (s .dum-has some) low high (λ _. record { bucket = x .making; real = s .sane .5; has = refl }) (λ l. absurd (omega (arith, hh .high)))
 
             went : Went z (took F.l2 (x .errand)) (to B8 x) h p bs nothing
             went = record {
@@ -376,7 +377,7 @@ module _ {h : Header} {ws : List Worker} {Ps Qs : Pasts} {w : ℕ} {c m bs : Lis
               next = record {
                 k = heldKey x;
                 d = 0;
-                rest = A.place-dummy (core z) n (x .cur) 0 D hh (omega arith) (s .sane .8) (x .prev) (dummy (x .making)) i e (s .dum-has some) low high (λ _. is-even) (λ l. absurd (omega (arith, hh .high))) refl some;
+                rest = A.place-dummy (core z) n (x .cur) 0 D hh (omega arith) (s .sane .8) (x .prev) (dummy (x .making)) i e (s .dum-has some) low high (λ _. record { bucket = x .making; real = s .sane .5; has = refl }) (λ l. absurd (omega (arith, hh .high))) refl some;
                 spot = F.b8;
                 place = refl;
                 sane = s .sane;
@@ -386,7 +387,7 @@ module _ {h : Header} {ws : List Worker} {Ps Qs : Pasts} {w : ℕ} {c m bs : Lis
                 dum-has = λ y. absurd (y refl);
                 at = (a .0, a .1, subst (λ (v : ℕ). Root D (putAfter i n) p (x .making) v) is (record { on = put-new i n; sort = hh .high; has = pk n ∙ s .dum-has some }));
               };
-              change = λ j. A.place-same (core z) n (x .cur) 0 D hh (omega arith) (s .sane .8) (x .prev) (dummy (x .making)) i e (s .dum-has some) low high (λ _. is-even) (λ l. absurd (omega (arith, hh .high)))
+              change = λ j. A.place-same (core z) n (x .cur) 0 D hh (omega arith) (s .sane .8) (x .prev) (dummy (x .making)) i e (s .dum-has some) low high (λ _. record { bucket = x .making; real = s .sane .5; has = refl }) (λ l. absurd (omega (arith, hh .high)))
                   j (λ r. omega (arith, regular-odd-all j, is-even));
               kind = refl;
               same-key = refl;

@@ -9,10 +9,31 @@ use native.Mathlib.Decide.{ℕ-discrete}
 use Rattle.split.specs.Split.{reverse, regular, dummy}
 use Rattle.split.proofs.Laws.{regular-odd, regular-inj, dummy-even}
 use Rattle.names.specs.Names.{KEY-LIMIT}
-use Rattle.story.specs.Run.{key, link, after, mark, On, Registered}
-use Rattle.story.specs.Story.{Same, Added, Removed}
+use Rattle.register.specs.Chain.{key, link, after, mark, On, Registered}
+use Rattle.register.specs.Events.{Event, nothing, added, removed}
 use Rattle.story.proofs.Chain.{putAfter, put-new, put-old, put-only, same-key, between, on-in, in-on}
 use Rattle.story.proofs.Facts.{Glob}
+
+-- a key is registered in the one as in the other
+pub record Same (a b : List ℕ) (k : ℕ) : Type 0 where
+  pub still : Registered a k → Registered b k
+  pub already : Registered b k → Registered a k
+
+pub record Added (a b : List ℕ) (k : ℕ) : Type 0 where
+  pub before : Registered a k → ⊥
+  pub after : Registered b k
+  pub others : (j : ℕ) → j ≤ KEY-LIMIT → j ≢ k → Same a b j
+
+pub record Removed (a b : List ℕ) (k : ℕ) : Type 0 where
+  pub before : Registered a k
+  pub after : Registered b k → ⊥
+  pub others : (j : ℕ) → j ≤ KEY-LIMIT → j ≢ k → Same a b j
+
+-- the registered keys of the one, by an event, are those of the other
+abbrev pub Change : List ℕ → List ℕ → Event → Type 0
+Change a b nothing = (k : ℕ) → Same a b k
+Change a b (added k) = Added a b k
+Change a b (removed k) = Removed a b k
 
 -- a key's split key is that of its lowest 31 bits
 cut : (k : ℕ) → regular (k % 2147483648) ≡ regular k

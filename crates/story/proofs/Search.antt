@@ -13,7 +13,7 @@ use Rattle.choice.proofs.Cases.{by-bool, by-eq, by-lt}
 use Rattle.split.specs.Split.{regular, dummy}
 use Rattle.words.specs.Words.{STANDING, LINK, put, linkTo, isTo}
 use Rattle.words.proofs.Laws.{isTo-true}
-use Rattle.names.specs.Names.{F1, F2, F3, F4, L2, B8, D4A, D6, KEY, DUMMY, EXTRA, INSERT, FIND}
+use Rattle.names.specs.Names.{F1, F2, F4, L2, B8, D4A, D6, KEY, DUMMY, EXTRA, INSERT, FIND, numberOf}
 use Rattle.names.specs.declared.Answer.{Answer}
 use Rattle.names.specs.declared.Answer.the-variants.{Yes, No}
 use Rattle.header.specs.declared.Header.{Header}
@@ -21,13 +21,13 @@ use Rattle.header.specs.Header.{dummiesOf, nodesOf}
 use Rattle.record.specs.declared.Worker.{Worker}
 use Rattle.record.specs.Fields.{to, withPrev, withCur, withDummy}
 use Rattle.record.specs.Worker.{heldKey, heldDummy}
-use Rattle.moves.specs.declared.Effect.{Effect}
-use Rattle.moves.specs.declared.Effect.the-variants.{Nothing, Free, Unlink}
-use Rattle.moves.specs.declared.Move.{Move}
-use Rattle.moves.specs.declared.Move.the-variants.{Damaged, Going, Ended}
+use Rattle.acts.specs.declared.Effect.{Effect}
+use Rattle.acts.specs.declared.Effect.the-variants.{Nothing, Free, Unlink}
+use Rattle.acts.specs.declared.Move.{Move}
+use Rattle.acts.specs.declared.Move.the-variants.{Damaged, Going, Ended}
 use Rattle.moves.specs.Moves.{notFound, foundKey, found, comes, f1, f2, judged, f3, f4}
-use Rattle.story.specs.Run.{key, link, after, mark, nothing}
-use Rattle.story.specs.Story.{Same}
+use Rattle.register.specs.Chain.{key, link, after, mark}
+use Rattle.register.specs.Events.{nothing}
 use Rattle.story.proofs.Memory.{key-of-standing}
 use Rattle.story.proofs.Chain.{cutAfter, succ-in}
 use Rattle.story.proofs.Facts as F
@@ -35,7 +35,7 @@ use Rattle.story.proofs.Facts.{Prot, Held, Glob, forKey, forDummy, forE
 use Rattle.story.proofs.Stable as st
 use Rattle.story.proofs.Core.{Pasts, Core}
 use Rattle.story.proofs.Effects.{same, live-on, prot-fits, prot-some, next-fits}
-use Rattle.story.proofs.Registers.{unmoved, gap, on, dummy-is-even}
+use Rattle.story.proofs.Registers.{Same, unmoved, gap, on, dummy-is-even}
 use Rattle.story.proofs.Acts.{free-dummy, free-same, unlink-later, unlink-prev, unlink-same, unlinks}
 use Rattle.story.proofs.Steps.{took, ticked, Ctx, me, core, Went, Present, Absent, Stands, looks, Told, Finished, Good, over, past, upon, seen, sound-link, want-is, even-sort}
 
@@ -153,6 +153,7 @@ module _ {h : Header} {ws : List Worker} {Ps Qs : Pasts} {w : ℕ} {c m bs : Lis
               no-absent = λ a k. absent (want-key (x .errand) (x .making) (x .key) (λ r. omega arith));
               done = λ a k. let f : _≡_ {A = ℕ} 0 1 = cc in absurd (omega arith);
               undone = λ a. ne-eqb (x .errand) EXTRA (λ r. omega arith);
+              below = omega arith;
             }))))
         by-aim (forDummy q hs way dn) = past G _ _ (ne-eqb (x .errand) EXTRA (λ r. omega arith))
             (by-bool G (eqb (x .errand) DUMMY || eqb (x .kind) INSERT) (λ t. to-l2 (inl q))
@@ -266,13 +267,14 @@ module _ {h : Header} {ws : List Worker} {Ps Qs : Pasts} {w : ℕ} {c m bs : Lis
         seen-it : x .errand ≢ DUMMY → Present z (x .key)
         seen-it ne = inr (x .cur, x .next, rw (has ∙ want-key (x .errand) (x .making) (x .key) ne) at (b .2 .was live))
 
-        told : (a : Answer) → x .errand ≡ KEY → (a ≡ Yes → x .kind ≡ FIND) → (a ≡ No → x .kind ≡ INSERT) → Told z tk a
-        told a q f g = record {
+        told : (a : Answer) → x .errand ≡ KEY → (a ≡ Yes → x .kind ≡ FIND) → (a ≡ No → x .kind ≡ INSERT) → numberOf a ≤ 18 → Told z tk a
+        told a q f g l = record {
           yes = λ u k. seen-it (λ r. omega arith);
           no-there = λ u k. seen-it (λ r. omega arith);
           no-absent = λ u k. absurd (k (g u));
           done = λ u k. absurd (k (f u));
           undone = λ u. ne-eqb (x .errand) EXTRA (λ r. omega arith);
+          below = l;
         }
 
         by-aim : AimOf x → G (pick (eqb (x .errand) EXTRA) (Going (to D6 x) Nothing) (pick (eqb (x .errand) KEY)
@@ -281,9 +283,9 @@ module _ {h : Header} {ws : List Worker} {Ps Qs : Pasts} {w : ℕ} {c m bs : Lis
         by-aim (forKey q hs) = past G _ _ (ne-eqb (x .errand) EXTRA (λ r. omega arith)) (upon G _ _ (eq-eqb (x .errand) KEY q)
             (by-eq G (x .kind) INSERT
             (λ k. past G _ _ (ne-eqb (x .held) 0 (hs k)) (over z tk No c m (core z) unmoved
-            (told No q (λ u. let f : _≡_ {A = ℕ} 0 1 = cc in absurd (omega arith)) (λ u. k))))
+            (told No q (λ u. let f : _≡_ {A = ℕ} 0 1 = cc in absurd (omega arith)) (λ u. k) (omega arith))))
             (λ nk. by-eq G (x .kind) FIND
-            (λ k. over z tk Yes c m (core z) unmoved (told Yes q (λ u. k) (λ u. let f : _≡_ {A = ℕ} 0 1 = cc in absurd (omega arith))))
+            (λ k. over z tk Yes c m (core z) unmoved (told Yes q (λ u. k) (λ u. let f : _≡_ {A = ℕ} 0 1 = cc in absurd (omega arith)) (omega arith)))
             (λ nf. looks z tk p₀ l (dum ∙ no-sought x (λ r. omega arith)) F.d4a (to D4A x) refl (l .sane) (sym (hand ∙ no-hand x nk)) refl refl refl
             (omega (arith, l .sane .0, l .sane .1), q, low, b .0 .1 .safe, b .1, has ∙ want-key (x .errand) (x .making) (x .key) (λ r. omega arith)) (sym (ne-eqb (x .errand) EXTRA (λ r. omega arith)))
             ))))

@@ -19,8 +19,9 @@ use Rattle.header.specs.Header.{nodesOf, headerDamaged}
 use Rattle.header.specs.Rows.{BusyBeyond}
 use Rattle.header.proofs.Rows.{header-damaged, power-up-to}
 use Rattle.record.specs.declared.Worker.{Worker}
-use Rattle.record.specs.Worker.{idle, unknownName, bucketBeyond, nodeBeyond, bitDisagrees, idleNotZero, kindMisfit, errandMisfit, makingAstray, sizeMisfit, workerDamaged}
-use Rattle.register.specs.Calls.{isShort}
+use Rattle.record.specs.Worker.{idle}
+use Rattle.faults.specs.Faults.{unknownName, bucketBeyond, nodeBeyond, bitDisagrees, idleNotZero, kindMisfit, errandMisfit, makingAstray, sizeMisfit, workerDamaged}
+use Rattle.header.specs.Header.{isShort}
 use Rattle.story.proofs.Facts.{Sane, Spot, i1, sz, tb, b2, b4, f1, f2, f3, f4, l2, b8, i8, i9, i10, d4a, d4b, d6, number, forKey, forDummy, forExtra, AimOf, At, Busy, Fact}
 use Rattle.story.proofs.Core.{Pasts, Agrees, Core, not-idle}
 

@@ -13,7 +13,7 @@ use Rattle.choice.specs.Choice.{pick}
 use Rattle.choice.proofs.Auto.{pick-false, pick-true}
 use Rattle.split.specs.Split.{regular, dummy}
 use Rattle.sets.specs.Sets.{bit, dropped}
-use Rattle.names.specs.Names.{F1, L2, I8, I10, D4B, D6, EXTRA, INSERT, FIND, DELETE}
+use Rattle.names.specs.Names.{F1, L2, I8, I10, D4B, D6, EXTRA, INSERT, FIND, DELETE, numberOf}
 use Rattle.names.specs.declared.Answer.{Answer}
 use Rattle.names.specs.declared.Answer.the-variants.{Yes, No}
 use Rattle.header.specs.declared.Header.{Header}
@@ -22,16 +22,17 @@ use Rattle.record.specs.declared.Worker.{Worker}
 use Rattle.record.specs.Fields.{withSteps}
 use Rattle.record.specs.Worker.{idle, within, heldKey, heldDummy}
 use Rattle.moves.specs.declared.Seen.{Seen}
-use Rattle.moves.specs.declared.Effect.the-variants.{Nothing}
-use Rattle.moves.specs.declared.Move.{Move}
-use Rattle.moves.specs.declared.Move.the-variants.{Damaged, Going, Ended}
+use Rattle.acts.specs.declared.Effect.the-variants.{Nothing}
+use Rattle.acts.specs.declared.Move.{Move}
+use Rattle.acts.specs.declared.Move.the-variants.{Damaged, Going, Ended}
 use Rattle.moves.specs.Moves.{badLink, wantOf, on}
 use Rattle.writes.specs.Writes.{nodesAfter, bucketsAfter, headerAfter}
-use Rattle.register.specs.Step.{tick, closed}
+use Rattle.writes.specs.Carry.{tick, closedBy}
+use Rattle.register.specs.Step.{closed}
 use Rattle.crew.specs.Crew.{turn}
-use Rattle.story.specs.Run.{key, link, after, Registered, Event, nothing, added, removed, written}
-use Rattle.story.specs.Story.{Same, Change}
-use Rattle.story.proofs.Registers.{unmoved}
+use Rattle.register.specs.Chain.{key, link, after, Registered}
+use Rattle.register.specs.Events.{Event, nothing, added, removed, written}
+use Rattle.story.proofs.Registers.{Same, Change, unmoved}
 use Rattle.story.proofs.Facts.{Glob, Spot, i1, sz, tb, b2, b4, f1, f2, f3, f4, l2, b8, i8, i9, i10, d4a, d4b, d6, number, At, Sane, wantBy, keyOf, dumOf, Busy}
 use Rattle.story.proofs.Stable.{Grows}
 use Rattle.story.proofs.Hands.{key-is, dummy-is}
@@ -104,10 +105,11 @@ pub record ToldBy (m : List ℕ) (P : ℕ → ℕ → ℕ → Type 0) (x : Worke
   pub no-absent : a ≡ No → x .kind ≢ INSERT → Absently m P (x .key)
   pub done : a ≡ Yes → x .kind ≢ FIND → tk ≡ true
   pub undone : a ≢ Yes → tk ≡ false
+  pub below : numberOf a ≤ 18
 
 -- neither yes nor no, of an operation without effect
-pub told-neither : {m : List ℕ} {P : ℕ → ℕ → ℕ → Type 0} {x : Worker} {a : Answer} → a ≢ Yes → a ≢ No → ToldBy m P x false a
-told-neither ny nn = record { yes = λ a k. absurd (ny a); no-there = λ a k. absurd (nn a); no-absent = λ a k. absurd (nn a); done = λ a k. absurd (ny a); undone = λ a. refl }
+pub told-neither : {m : List ℕ} {P : ℕ → ℕ → ℕ → Type 0} {x : Worker} {a : Answer} → a ≢ Yes → a ≢ No → numberOf a ≤ 18 → ToldBy m P x false a
+told-neither ny nn b = record { yes = λ a k. absurd (ny a); no-there = λ a k. absurd (nn a); no-absent = λ a k. absurd (nn a); done = λ a k. absurd (ny a); undone = λ a. refl; below = b }
 
 -- a step of worker w: the invariant before it, and what is seen of the past afterwards
 pub record Ctx (h : Header) (ws : List Worker) (Ps Qs : Pasts) (w : ℕ) (c m bs : List ℕ) : Type 0 where
@@ -218,7 +220,7 @@ module _ {h : Header} {ws : List Worker} {Ps Qs : Pasts} {w : ℕ} {c m bs : Lis
 
   -- the invariant after a step that ends
   pub over : (tk : Bool) (a : Answer) (c′ m′ : List ℕ) → Core h ws Ps w (heldKey me) (heldDummy me) c′ m′ bs → ((j : ℕ) → Same m m′ j) → Told tk a → Finished tk a h m′ bs nothing
-  unfolding closed
+  unfolding closedBy
   over tk a c′ m′ k s t = record {
     chain = c′;
     after = ends k (z .lt) Qs (z .others);
@@ -229,7 +231,7 @@ module _ {h : Header} {ws : List Worker} {Ps Qs : Pasts} {w : ℕ} {c m bs : Lis
 
   -- the same where the step writes a word of the header
   pub overs : (tk : Bool) (a : Answer) (s n : ℕ) → Core (headed s n (h .busy) h) ws Ps w (heldKey me) (heldDummy me) c m bs → Told tk a → Finished tk a (headed s n (h .busy) h) m bs nothing
-  unfolding closed
+  unfolding closedBy
   overs tk a s n k t = record { chain = c; after = ends k (z .lt) Qs (z .others); none = refl; same = ends-same k; told = t }
 
 -- ---- tests that the invariant decides

@@ -15,21 +15,20 @@ use Rattle.names.specs.declared.Answer.{Answer}
 use Rattle.record.specs.Fields.{to, withPrev, withCur, withHeld}
 use Rattle.record.specs.Worker.{idle, within}
 use Rattle.moves.specs.declared.Seen.{Seen}
-use Rattle.moves.specs.declared.Effect.{Effect}
-use Rattle.moves.specs.declared.Effect.the-variants.{Nothing}
-use Rattle.moves.specs.declared.Move.{Move}
-use Rattle.moves.specs.declared.Move.the-variants.{Damaged, Going, Ended}
+use Rattle.acts.specs.declared.Effect.{Effect}
+use Rattle.acts.specs.declared.Effect.the-variants.{Nothing}
+use Rattle.acts.specs.declared.Move.{Move}
+use Rattle.acts.specs.declared.Move.the-variants.{Damaged, Going, Ended}
 use Rattle.moves.specs.Moves.{notFound, foundKey, found, comes, f1, f2, judged, f3, f4, placed, l2, tb, b2, b4, b8, i1, sz, i8, i9, i10, d4a, d4b, d6, decidedAt, countUp, countDown}
 use Rattle.writes.specs.Writes.{headerAfter}
-use Rattle.story.specs.Run.{Event, nothing, written}
-use Rattle.story.specs.Story.{uncountedIn, uncountedOut, adds, removes}
+use Rattle.register.specs.Events.{Event, nothing, written, adds, removes, all, uncountedIn, uncountedOut}
 use Rattle.story.proofs.Steps.{seen}
 use Rattle.story.proofs.Facts as F
 
 -- the count stays and the event is to be counted; or the operation is counted, up or down
 abbrev pub Tally : ℕ → ℕ → Worker → Worker → Event → Type 0
 Tally c c′ x y ev =
-    ((c′ ≡ c) × (uncountedIn y ≡ uncountedIn x + adds ev) × (uncountedOut y ≡ uncountedOut x + removes ev))
+    ((c′ ≡ c) × (uncountedIn y ≡ uncountedIn x + adds all ev) × (uncountedOut y ≡ uncountedOut x + removes all ev))
     ⊎ ((c′ ≡ countUp c) × (uncountedIn x ≡ uncountedIn y + 1) × (uncountedOut y ≡ uncountedOut x) × (ev ≡ nothing))
     ⊎ ((c′ ≡ countDown c) × (uncountedIn y ≡ uncountedIn x) × (uncountedOut x ≡ uncountedOut y + 1) × (ev ≡ nothing))
 
@@ -47,7 +46,7 @@ pub none : pick {A = ℕ} false 1 0 ≡ 0
 unfolding pick
 none = refl
 
-one : pick {A = ℕ} true 1 0 ≡ 1
+pub one : pick {A = ℕ} true 1 0 ≡ 1
 unfolding pick
 one = refl
 

@@ -1,7 +1,7 @@
 -- The invariant holds at every state of every run, by induction on the calls; what is said of a run is read off it.
 -- Assumes nothing.
 use mathlib.Core.Path.{_≡_, refl, sym, ap}
-use mathlib.Core.Logic.{_≢_, _⊎_, inl, inr}
+use mathlib.Core.Logic.{_≢_, _⊎_, inl, inr, ⊎-elim, _↔_}
 use mathlib.Core.Bool.{Bool, true, false, _&&_}
 use mathlib.Core.List.{List, [], _∷_, List·Memᴰ as In, List·Memᴰ·head as here}
 use Prim.Native.Nat.{ℕ, zero, suc, _+_, _*_, _≤_, _<_}
@@ -15,13 +15,15 @@ use Rattle.names.specs.Names.{IDLE, KEY-LIMIT, numberOf}
 use Rattle.names.specs.declared.Answer.{Answer}
 use Rattle.names.specs.declared.Answer.the-variants.{Going, Yes, No, Limit, Short, Damaged, NoWorker, KeyAbove, IsBusy, IsIdle, NoKind, NoKeyNode, NoDummy}
 use Rattle.record.specs.declared.Worker.{Worker}
-use Rattle.story.specs.Run.{State, workerOf, Call, start, step, left, answer, Run, state, key, link, On, Registered, Event, nothing, added, removed, event}
-use Rattle.story.specs.Story
-use Rattle.story.specs.Story.{startsOf, began, NeverDamaged, Change, StepLaw, isAdded, isRemoved, inserted, deleted, Ledger, BitsAgree}
+use Rattle.register.specs.Chain.{key, link, On, Registered}
+use Rattle.register.specs.Events.{Event, nothing, added, removed, Allowed, Then, adds, removes}
+use Rattle.story.specs.Run.{State, workerOf, Call, start, step, left, answer, Run, state, event, eventAt}
+use Rattle.story.specs.Story.{NeverDamaged, DummiesSuffice, tallied, Ledger, StepLaw, BitsAgree}
+use Rattle.story.proofs.Spans.{startsOf, began}
 use Rattle.story.proofs.Chain.{on-in, in-on}
 use Rattle.story.proofs.Stable.{Grows}
 use Rattle.story.proofs.Core.{Pasts}
-use Rattle.story.proofs.Registers.{regular-odd-all}
+use Rattle.story.proofs.Registers.{Change, regular-odd-all}
 use Rattle.story.proofs.Calls.{InvOf, Made, step-made, start-made}
 use Rattle.story.proofs.Fresh.{ready, fresh-inv}
 
@@ -92,7 +94,7 @@ kept r i v e a b k s = record { call = s .call; from = rw e (s .from); upto = om
 -- a busy worker's operation began before now
 pub alive : (r : Run) (i : ℕ) (g : Good r i) (w : ℕ) → w < state r i .header .w → workerOf (state r i) w .place ≢ IDLE → began r w i < i
 alive r zero g w lt ne =
-    let p = ready (r .first) (r .fresh) in
+    let p = ready r in
     absurd (ne (ap (λ (x : Worker). x .place) (p .rest w (rw (p .header) at lt))))
 alive r (suc i) g w lt ne = began-lt r w i
 
@@ -116,58 +118,79 @@ module _ (r : Run) (i : ℕ) (g : Good r i) where
   made-at = made (r .call i) refl
 
 pub good : (r : Run) (i : ℕ) → Good r i
-good r zero = record { chain = 1 ∷ []; inv = fresh-inv (r .first) (r .fresh) (Past r 0) }
+good r zero = record { chain = 1 ∷ []; inv = fresh-inv r (Past r 0) }
 good r (suc i) = let k = made-at r i (good r i) in record { chain = k .chain; inv = k .inv }
 
--- ---- no call answers 12 or 11
-any-call : (s : State) (Ps : Pasts) (c : List ℕ) → InvOf s Ps c → (k : Call) → (answer s k ≢ Damaged) × (answer s k ≢ Short)
+-- ---- no call answers 12, 11 or 19
+any-call : (s : State) (Ps : Pasts) (c : List ℕ) → InvOf s Ps c → (k : Call) → (answer s k ≢ Damaged) × (answer s k ≢ Short) × (answer s k ≢ NoDummy)
 any-call s Ps c inv (step w) =
     let k = step-made s Ps Anything c inv w (λ v a b n p. tt) (λ lt ne n nx o l. tt) in
-    (k .sound, k .long)
+    (k .sound, k .long, k .dummies)
 any-call s Ps c inv (start w kind key) =
     let k = start-made s Ps Anything c inv w kind key (λ v ne a b n p. tt) (λ ng a b n p. tt) in
-    (k .sound, k .long)
+    (k .sound, k .long, k .dummies)
 
 pub never-damaged : NeverDamaged
-never-damaged r i c = let g = good r i in any-call (state r i) (Past r i) (g .chain) (g .inv) c
+never-damaged r i c = let g = good r i in let q = any-call (state r i) (Past r i) (g .chain) (g .inv) c in (q .0, q .1)
+
+pub dummies-suffice : DummiesSuffice
+dummies-suffice r i c = let g = good r i in any-call (state r i) (Past r i) (g .chain) (g .inv) c .2
 
 -- ---- registered keys change by events alone
+pub changes : (r : Run) (i : ℕ) → Change (state r i .nodes) (state r (suc i) .nodes) (eventAt r i)
+changes r i = made-at r i (good r i) .change
+
+allowed : (a b : List ℕ) (ev : Event) → Change a b ev → Allowed ev (Registered a)
+allowed a b nothing c = tt
+allowed a b (added k) c = c .before
+allowed a b (removed k) c = c .before
+
+then-is : (a b : List ℕ) (ev : Event) → Change a b ev → (j : ℕ) → j ≤ KEY-LIMIT → Registered b j ↔ Then ev (Registered a) j
+then-is a b nothing c j l = (c j .already, c j .still)
+then-is a b (added k) c j l = by (ℕ-discrete j k)
+  where
+    by : Dec (j ≡ k) → Registered b j ↔ Then (added k) (Registered a) j
+    by (yes e) = (λ q. inl e, λ q. rw e (c .after))
+    by (no ne) = let o = c .others j l ne in (λ q. inr (o .already q), ⊎-elim (λ e. absurd (ne e)) (o .still))
+then-is a b (removed k) c j l = (λ q. let ne : j ≢ k = λ e. c .after (rw e at q) in (ne, c .others j l ne .already q), λ q. c .others j l (q .0) .still (q .1))
+
 pub step-law : StepLaw
-step-law r i = made-at r i (good r i) .change
+step-law r i = let c = changes r i in (allowed (state r i .nodes) (state r (suc i) .nodes) (eventAt r i) c, then-is (state r i .nodes) (state r (suc i) .nodes) (eventAt r i) c)
 
 -- the ledger of a key after one event
-abbrev Balance : List ℕ → ℕ → ℕ → ℕ → Type 0
-Balance ns k ins del = (Registered ns k × (ins ≡ del + 1)) ⊎ ((Registered ns k → ⊥) × (ins ≡ del))
+abbrev Balance : Type 0 → ℕ → ℕ → Type 0
+Balance registered ins del = (registered × (ins ≡ del + 1)) ⊎ ((registered → ⊥) × (ins ≡ del))
 
-plus-one : (k j a : ℕ) → j ≡ k → pick (eqb j k) 1 0 + a ≡ a + 1
-plus-one k j a e = by-eq (λ (n : ℕ). n + a ≡ a + 1) j k (λ _. omega arith) (λ ne. absurd (ne e))
+plus-one : (k j a : ℕ) → k ≡ j → pick (eqb k j) 1 0 + a ≡ a + 1
+plus-one k j a e = by-eq (λ (n : ℕ). n + a ≡ a + 1) k j (λ _. omega arith) (λ ne. absurd (ne e))
 
-plus-none : (k j a : ℕ) → j ≢ k → pick (eqb j k) 1 0 + a ≡ a
-plus-none k j a ne = by-eq (λ (n : ℕ). n + a ≡ a) j k (λ e. absurd (ne e)) (λ _. omega arith)
+plus-none : (k j a : ℕ) → k ≢ j → pick (eqb k j) 1 0 + a ≡ a
+plus-none k j a ne = by-eq (λ (n : ℕ). n + a ≡ a) k j (λ e. absurd (ne e)) (λ _. omega arith)
 
-balance : (a b : List ℕ) (ev : Event) (k ins del : ℕ) → k ≤ KEY-LIMIT → Change a b ev → Balance a k ins del → Balance b k (isAdded k ev + ins) (isRemoved k ev + del)
+balance : (a b : List ℕ) (ev : Event) (k ins del : ℕ) → k ≤ KEY-LIMIT → Change a b ev
+    → Balance (Registered a k) ins del → Balance (Registered b k) (adds (eqb k) ev + ins) (removes (eqb k) ev + del)
 balance a b nothing k ins del l c (inl p) = inl (c k .still (p .0), omega (arith, p .1))
 balance a b nothing k ins del l c (inr p) = inr (λ q. p .0 (c k .already q), omega (arith, p .1))
-balance a b (added j) k ins del l c p = by (ℕ-discrete j k) p
+balance a b (added j) k ins del l c p = by (ℕ-discrete k j) p
   where
-    by : Dec (j ≡ k) → Balance a k ins del → Balance b k (isAdded k (added j) + ins) (0 + del)
-    by (yes e) (inl p) = absurd (c .before (rw e (p .0)))
-    by (yes e) (inr p) = inl (rw e at (c .after), omega (arith, plus-one k j ins e, p .1))
-    by (no ne) (inl p) = inl (c .others k l (λ q. ne (sym q)) .still (p .0), omega (arith, plus-none k j ins ne, p .1))
-    by (no ne) (inr p) = inr (λ q. p .0 (c .others k l (λ q. ne (sym q)) .already q), omega (arith, plus-none k j ins ne, p .1))
-balance a b (removed j) k ins del l c p = by (ℕ-discrete j k) p
+    by : Dec (k ≡ j) → Balance (Registered a k) ins del → Balance (Registered b k) (adds (eqb k) (added j) + ins) (0 + del)
+    by (yes e) (inl p) = absurd (c .before (rw e at (p .0)))
+    by (yes e) (inr p) = inl (rw e (c .after), omega (arith, plus-one k j ins e, p .1))
+    by (no ne) (inl p) = inl (c .others k l ne .still (p .0), omega (arith, plus-none k j ins ne, p .1))
+    by (no ne) (inr p) = inr (λ q. p .0 (c .others k l ne .already q), omega (arith, plus-none k j ins ne, p .1))
+balance a b (removed j) k ins del l c p = by (ℕ-discrete k j) p
   where
-    by : Dec (j ≡ k) → Balance a k ins del → Balance b k (0 + ins) (isRemoved k (removed j) + del)
-    by (yes e) (inl p) = inr (rw e at (c .after), omega (arith, plus-one k j del e, p .1))
-    by (yes e) (inr p) = absurd (p .0 (rw e at (c .before)))
-    by (no ne) (inl p) = inl (c .others k l (λ q. ne (sym q)) .still (p .0), omega (arith, plus-none k j del ne, p .1))
-    by (no ne) (inr p) = inr (λ q. p .0 (c .others k l (λ q. ne (sym q)) .already q), omega (arith, plus-none k j del ne, p .1))
+    by : Dec (k ≡ j) → Balance (Registered a k) ins del → Balance (Registered b k) (0 + ins) (removes (eqb k) (removed j) + del)
+    by (yes e) (inl p) = inr (λ q. c .after (rw e at q), omega (arith, plus-one k j del e, p .1))
+    by (yes e) (inr p) = absurd (p .0 (rw e (c .before)))
+    by (no ne) (inl p) = inl (c .others k l ne .still (p .0), omega (arith, plus-none k j del ne, p .1))
+    by (no ne) (inr p) = inr (λ q. p .0 (c .others k l ne .already q), omega (arith, plus-none k j del ne, p .1))
 
 -- no key is registered in a fresh register
-pub none-yet : (r : Run) (k : ℕ) → Registered (r .first .nodes) k → ⊥
+pub none-yet : (r : Run) (k : ℕ) → Registered (state r 0 .nodes) k → ⊥
 none-yet r k g =
-    let i = fresh-inv (r .first) (r .fresh) (Past r 0) in
-    let e : key (r .first .nodes) (g .node) ≡ 0 = rw (is-one (on-in (r .first .nodes) (1 ∷ []) (i .glob .walk) (g .on))) (i .glob .zero) in
+    let i = fresh-inv r (Past r 0) in
+    let e : key (state r 0 .nodes) (g .node) ≡ 0 = rw (is-one (on-in (state r 0 .nodes) (1 ∷ []) (i .glob .walk) (g .on))) (i .glob .zero) in
     omega (arith, regular-odd-all k, g .has)
   where
     is-one : {n : ℕ} → In n (1 ∷ []) → n ≡ 1
@@ -175,8 +198,8 @@ none-yet r k g =
 
 pub ledger : Ledger
 ledger r zero k l = inr (none-yet r k, refl)
-ledger r (suc i) k l = balance (state r i .nodes) (state r (suc i) .nodes) (event (state r i) (r .call i)) k (inserted r k i) (deleted r k i) l (step-law r i) (ledger r i k l)
+ledger r (suc i) k l = balance (state r i .nodes) (state r (suc i) .nodes) (eventAt r i) k (tallied (adds (eqb k)) (eventAt r) i) (tallied (removes (eqb k)) (eventAt r) i) l (changes r i) (ledger r i k l)
 
 -- ---- busy bits
 pub bits-agree : BitsAgree
-bits-agree r i w lt = good r i .inv .bits w lt (omega arith)
+bits-agree r i w lt = ⊎-elim (λ a. (λ _. a .1, λ _. a .0)) (λ a. (λ e. absurd (a .0 e), λ e. absurd (omega (arith, a .1, e)))) (good r i .inv .bits w lt (omega arith))

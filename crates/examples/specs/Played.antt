@@ -1,0 +1,95 @@
+-- A schedule played to its end over tables of zeros, by our register or by a wrong one, and the lines that it prints.
+use Prim.Native.Nat.{ℕ, zero, suc, _+_, _*_}
+use mathlib.Core.Bool.{Bool, _||_}
+use mathlib.Core.List.{List, [], _∷_}
+use mathlib.Core.Path.{_≡_}
+use lib.Dec.{ltb, eqb}
+use lib.ListN.{length, getD}
+use Rattle.choice.specs.Choice.{pick}
+use Rattle.names.specs.Names.{numberOf}
+use Rattle.names.specs.declared.Answer.{Answer}
+use Rattle.names.specs.declared.Answer.the-variants.{Going}
+use Rattle.record.specs.Worker.{idle}
+use Rattle.prepare.specs.declared.Limits.{Limits}
+use Rattle.register.specs.Events.{Event}
+use Rattle.crew.specs.Crew.{Left, turnAt, stored}
+use Rattle.promises.specs.Wrong.{Step}
+use Rattle.story.specs.Run.{State, workerOf, stateOf, Call, start, step, left, prepares, event, Run}
+
+-- ---- what is lent: tables of zeros, just long enough
+abbrev pub times : {A : Type 0} → ℕ → A → List A → List A
+times zero x xs = xs
+times (suc n) x xs = x ∷ times n x xs
+
+abbrev pub blank : Limits → State
+blank l = record {
+  header = record { m = 0; k = 0; w = 0; l = 0; size = 0; count = 0; busy = 0 };
+  workers = times (l .w) idle [];
+  nodes = times ((l .m + l .w + l .k) * 3) 0 [];
+  buckets = times (l .m) 0 [];
+}
+
+-- ---- a schedule: starts, and some steps of a worker
+pub data Record : Type 0 where
+  starts : (worker kind key : ℕ) → Record
+  steps : (worker n : ℕ) → Record
+
+abbrev pub callsOf : List Record → List Call
+callsOf [] = []
+callsOf (starts w kind key ∷ rs) = start w kind key ∷ callsOf rs
+callsOf (steps w n ∷ rs) = times n (step w) (callsOf rs)
+
+-- a register of these limits, prepared over them
+abbrev pub Prepared : Limits → Type 0
+Prepared l = prepares l (blank l) .called .answer ≡ Going
+
+abbrev pub fresh : Limits → State
+fresh l = stateOf (prepares l (blank l))
+
+-- its run; after its calls worker 16 is asked, and there is none
+abbrev pub runOf : (l : Limits) → Prepared l → List Record → Run
+runOf l p rs = record { limits = l; lent = blank l; fresh = p; call = λ i. getD (callsOf rs) i (step 16) }
+
+-- ---- another register: our starts, and steps of its own
+abbrev pub leftBy : Step → State → Call → Left
+leftBy other s (start w kind key) = left s (start w kind key)
+leftBy other s (step w) =
+    pick (ltb (length (s .workers)) (s .header .w)) (left s (step w))
+    (stored (s .workers) w (other (turnAt (s .header) (s .workers) w) (s .nodes) (s .buckets)))
+
+-- its states, and what takes effect in them: such a register writes other words, and decides as ours does
+abbrev pub stateBy : Step → Run → ℕ → State
+stateBy other r zero = stateOf (prepares (r .limits) (r .lent))
+stateBy other r (suc i) = stateOf (leftBy other (stateBy other r i) (r .call i))
+
+abbrev pub eventBy : Step → Run → ℕ → Event
+eventBy other r i = event (stateBy other r i) (r .call i)
+
+-- ---- what is printed: "for each ended operation worker kind key answer steps"
+pub record Line : Type 0 where
+  pub worker : ℕ
+  pub kind : ℕ
+  pub key : ℕ
+  pub answer : Answer
+  pub steps : ℕ
+
+abbrev pub line : (worker kind key : ℕ) → Answer → (steps : ℕ) → Line
+line w kind key a n = record { worker = w; kind = kind; key = key; answer = a; steps = n }
+
+abbrev pub ended : Answer → Bool
+ended a = eqb (numberOf a) 1 || eqb (numberOf a) 2 || eqb (numberOf a) 18 || eqb (numberOf a) 19
+
+abbrev pub printed : State → Call → Left → List Line → List Line
+printed s (start w kind key) l rest = rest
+printed s (step w) l rest =
+    let x = workerOf s w in
+    pick (ended (l .called .answer)) (line w (x .kind) (x .key) (l .called .answer) (l .called .steps) ∷ rest) rest
+
+-- the lines of these calls from a state on, by a register that leaves so much of a call
+abbrev pub linesOf : (State → Call → Left) → State → List Call → List Line
+linesOf leaves s [] = []
+linesOf leaves s (c ∷ cs) = let rest = linesOf leaves (stateOf (leaves s c)) cs in printed s c (leaves s c) rest
+
+-- a schedule prints these lines
+abbrev pub Prints : (State → Call → Left) → Limits → List Record → List Line → Type 0
+Prints leaves l rs lines = linesOf leaves (fresh l) (callsOf rs) ≡ lines
