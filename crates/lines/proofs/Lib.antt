@@ -4,3 +4,4 @@ pub mod Laying
 pub mod Lengths
 pub mod Same
 pub mod Worked
+mod Spelled

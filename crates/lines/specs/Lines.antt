@@ -4,7 +4,9 @@ use mathlib.Core.Bool.{Bool, _&&_, _||_}
 use mathlib.Core.List.{List, [], _∷_, _++_}
 use lib.Dec.{eqb}
 use Rattle.choice.specs.Choice.{pick}
-use Rattle.names.specs.Names.{INSERT, FIND, DELETE}
+use Rattle.names.specs.Names.{INSERT, FIND, DELETE, numberOf}
+use Rattle.lines.specs.declared.Line.{Line}
+use Rattle.lines.specs.declared.Line.the-variants.{Register, Ended, Refused, End}
 use Rattle.lines.specs.Text.{decimal, signed}
 
 -- words with one space between them, and a newline
@@ -66,3 +68,10 @@ refusedLine number offset = line (REFUSED ∷ decimal number ∷ decimal offset 
 -- `end keys count size`, the count signed
 unfoldable pub endLine : ℕ → ℕ → ℕ → List ℕ
 endLine keys count size = line (END ∷ decimal keys ∷ signed count ∷ decimal size ∷ [])
+
+-- a line's text
+abbrev pub lineText : Line → List ℕ
+lineText (Register m k w l) = registerLine m k w l
+lineText (Ended worker kind key answer steps) = endedLine worker kind key (numberOf answer) steps
+lineText (Refused number offset) = refusedLine number offset
+lineText (End keys count size) = endLine keys count size

@@ -4,9 +4,42 @@ ghost use mathlib.Core.Path.{_≡_};
 ghost use mathlib.Core.List.{[], _∷_, _++_};
 ghost use Rattle.names.specs.Names.{numberOf};
 ghost use Rattle.lines.specs.Text.{Laid, decimal, signed};
-ghost use Rattle.lines.specs.Lines.{kindWord, answerWord, kindNamed, answerNamed, registerLine, endedLine, refusedLine, endLine};
+ghost use Rattle.lines.specs.Lines.{kindNamed, answerNamed, registerLine, endedLine, refusedLine, endLine, lineText};
+ghost use Rattle.lines.specs.Spans.{Fits, kindSpan, answerSpan, named};
 use names::Answer;
 use names::kind;
+
+// A line, by what it tells; numbers as the scope paper has them.
+pub enum Line {
+    Register {
+        m: u32,
+        k: u32,
+        w: u32,
+        l: u32,
+    },
+    Ended {
+        worker: u32,
+        kind: u32,
+        key: u32,
+        answer: Answer,
+        steps: u32,
+    },
+    Refused {
+        number: u32,
+        offset: usize,
+    },
+    End {
+        keys: u32,
+        count: u32,
+        size: u32,
+    },
+}
+
+// Where a word stands in the text of all the words.
+struct Span {
+    from: usize,
+    to: usize,
+}
 
 // A place, or the end of a buffer of that length where that comes first.
 fn within(at: usize, length: usize) -> usize
@@ -41,7 +74,7 @@ pub fn put_text(out: &mut [u8], at: usize, text: &[u8]) -> usize
 }
 
 // A number in decimal, with no zero in front.
-pub fn put_number(out: &mut [u8], at: usize, n: u64) -> usize
+fn put_number(out: &mut [u8], at: usize, n: u64) -> usize
     ensures { λ r. ⌜ Laid (now (out .entry)) at (decimal n) (now (out .exit)) r ⌝ }
 {
     let mut digits = [0u8; 20];
@@ -50,7 +83,7 @@ pub fn put_number(out: &mut [u8], at: usize, n: u64) -> usize
 }
 
 // A 32-bit word as a signed number: its top bit says that it is below zero.
-pub fn put_signed(out: &mut [u8], at: usize, n: u32) -> usize
+fn put_signed(out: &mut [u8], at: usize, n: u32) -> usize
     ensures { λ r. ⌜ Laid (now (out .entry)) at (signed n) (now (out .exit)) r ⌝ }
 {
     if n < 2147483648 {
@@ -69,7 +102,7 @@ fn put_field(out: &mut [u8], at: usize, n: u64, close: u8) -> usize
 }
 
 // The line of a register that was prepared.
-pub fn put_register(out: &mut [u8], at: usize, m: u32, k: u32, w: u32, l: u32) -> usize
+fn put_register(out: &mut [u8], at: usize, m: u32, k: u32, w: u32, l: u32) -> usize
     ensures { λ r. ⌜ Laid (now (out .entry)) at (registerLine m k w l) (now (out .exit)) r ⌝ }
 {
     let word = put_text(out, at, b"register ");
@@ -79,39 +112,50 @@ pub fn put_register(out: &mut [u8], at: usize, m: u32, k: u32, w: u32, l: u32) -
     put_field(out, third, l as u64, 10)
 }
 
-// The word of a kind, and a space; nothing but the space where the kind has none.
-fn put_kind(out: &mut [u8], at: usize, kind: u32) -> usize
-    ensures { λ r. ⌜ Laid (now (out .entry)) at (kindWord kind ++ (32 ∷ [])) (now (out .exit)) r ⌝ }
+// Where the word of a kind stands, with the space after it; the space alone where the kind has none.
+fn kind_span(kind: u32) -> Span
+    ensures { λ r. ⌜ r ≡ kindSpan kind ⌝ }
 {
     if kind == kind::INSERT {
-        return put_text(out, at, b"insert ");
+        return Span { from: 0, to: 7 };
     }
     if kind == kind::FIND {
-        return put_text(out, at, b"find ");
+        return Span { from: 7, to: 12 };
     }
     if kind == kind::DELETE {
-        return put_text(out, at, b"delete ");
+        return Span { from: 12, to: 19 };
     }
-    put_byte(out, at, 32)
+    Span { from: 6, to: 7 }
 }
 
-// The word of an answer, by its number, and a space; nothing but the space where the answer has none.
-fn put_answer(out: &mut [u8], at: usize, answer: u32) -> usize
-    ensures { λ r. ⌜ Laid (now (out .entry)) at (answerWord answer ++ (32 ∷ [])) (now (out .exit)) r ⌝ }
+// Where the word of an answer stands, by its number, with the space after it; the space alone where the answer has none.
+fn answer_span(answer: u32) -> Span
+    ensures { λ r. ⌜ r ≡ answerSpan answer ⌝ }
 {
     if answer == 1 {
-        return put_text(out, at, b"yes ");
+        return Span { from: 19, to: 23 };
     }
     if answer == 2 {
-        return put_text(out, at, b"no ");
+        return Span { from: 23, to: 26 };
     }
     if answer == 18 {
-        return put_text(out, at, b"full ");
+        return Span { from: 26, to: 31 };
     }
     if answer == 19 {
-        return put_text(out, at, b"dummy ");
+        return Span { from: 31, to: 37 };
     }
-    put_byte(out, at, 32)
+    Span { from: 6, to: 7 }
+}
+
+// The words of the kinds and of the answers, side by side, and of them the one at a span.
+fn put_name(out: &mut [u8], at: usize, span: Span) -> usize
+    requires { ⌜ Fits span ⌝ }
+    ensures { λ r. ⌜ Laid (now (out .entry)) at (named span) (now (out .exit)) r ⌝ }
+{
+    let names = *b"insert find delete yes no full dummy ";
+    let from = span.from;
+    let to = span.to;
+    put_text(out, at, &names[from..to])
 }
 
 // The kind has a word.
@@ -129,7 +173,7 @@ fn answer_named(answer: u32) -> bool
 }
 
 // The line of an operation that ended; nothing where the kind or the answer has no word.
-pub fn put_ended(
+fn put_ended(
     out: &mut [u8],
     at: usize,
     worker: u32,
@@ -143,9 +187,9 @@ pub fn put_ended(
     let number = answer.number();
     if kind_named(kind) & answer_named(number) {
         let first = put_field(out, at, worker as u64, 32);
-        let second = put_kind(out, first, kind);
+        let second = put_name(out, first, kind_span(kind));
         let third = put_field(out, second, key as u64, 32);
-        let fourth = put_answer(out, third, number);
+        let fourth = put_name(out, third, answer_span(number));
         put_field(out, fourth, steps as u64, 10)
     } else {
         within(at, out.len())
@@ -153,7 +197,7 @@ pub fn put_ended(
 }
 
 // The line of a refusal that does not end an operation.
-pub fn put_refused(out: &mut [u8], at: usize, number: u32, offset: usize) -> usize
+fn put_refused(out: &mut [u8], at: usize, number: u32, offset: usize) -> usize
     ensures { λ r. ⌜ Laid (now (out .entry)) at (refusedLine number offset) (now (out .exit)) r ⌝ }
 {
     let word = put_text(out, at, b"refused ");
@@ -162,7 +206,7 @@ pub fn put_refused(out: &mut [u8], at: usize, number: u32, offset: usize) -> usi
 }
 
 // The last line: the registered keys, the count as a signed number, and the size.
-pub fn put_end(out: &mut [u8], at: usize, keys: u32, count: u32, size: u32) -> usize
+fn put_end(out: &mut [u8], at: usize, keys: u32, count: u32, size: u32) -> usize
     ensures { λ r. ⌜ Laid (now (out .entry)) at (endLine keys count size) (now (out .exit)) r ⌝ }
 {
     let word = put_text(out, at, b"end ");
@@ -170,4 +214,22 @@ pub fn put_end(out: &mut [u8], at: usize, keys: u32, count: u32, size: u32) -> u
     let second = put_signed(out, first, count);
     let third = put_byte(out, second, 32);
     put_field(out, third, size as u64, 10)
+}
+
+// A line.
+pub fn put_line(out: &mut [u8], at: usize, line: Line) -> usize
+    ensures { λ r. ⌜ Laid (now (out .entry)) at (lineText line) (now (out .exit)) r ⌝ }
+{
+    match line {
+        Line::Register { m, k, w, l } => put_register(out, at, m, k, w, l),
+        Line::Ended {
+            worker,
+            kind,
+            key,
+            answer,
+            steps,
+        } => put_ended(out, at, worker, kind, key, answer, steps),
+        Line::Refused { number, offset } => put_refused(out, at, number, offset),
+        Line::End { keys, count, size } => put_end(out, at, keys, count, size),
+    }
 }

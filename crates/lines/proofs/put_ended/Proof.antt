@@ -7,6 +7,8 @@ use borrow.Author.Needs.{needs}
 use Rattle.lines.specs.Lines.{endedLine}
 use Rattle.lines.proofs.Laying.{laid-on, laid-as, laid-none}
 use Rattle.lines.proofs.Joined.{ended-joined, ended-none}
+use Rattle.lines.specs.Spans.{named}
+use Rattle.lines.proofs.Spelled.{kind-fits, answer-fits, kind-spelled, answer-spelled}
 use Rattle.lines.proofs.put_ended.Statement.{statement}
 use Rattle.lines.proofs.put_ended.Tie as tie
 
@@ -26,14 +28,20 @@ answer-named-requires c κs = search needs
 put-field-requires : tie.Need-put-field-requires
 put-field-requires c κs = search needs
 
-put-kind-requires : tie.Need-put-kind-requires
-put-kind-requires c κs = search needs
+kind-span-requires : tie.Need-kind-span-requires
+kind-span-requires c κs = tt
+
+put-name-requires : tie.Need-put-name-requires
+put-name-requires c κs = rw (c .kind-span .ensures) (kind-fits _)
 
 put-field-requires-2 : tie.Need-put-field-requires-2
 put-field-requires-2 c κs = search needs
 
-put-answer-requires : tie.Need-put-answer-requires
-put-answer-requires c κs = search needs
+answer-span-requires : tie.Need-answer-span-requires
+answer-span-requires c κs = tt
+
+put-name-requires-2 : tie.Need-put-name-requires-2
+put-name-requires-2 c κs = rw (c .answer-span .ensures) (answer-fits _)
 
 put-field-requires-3 : tie.Need-put-field-requires-3
 put-field-requires-3 c κs = search needs
@@ -46,16 +54,10 @@ same-length c = search needs
 
 returns : tie.Need-returns
 returns c =
-    let e = c .before .before in
-    let d = e .before .before .before .before in
-    let c = d .before .before .before .before in
-    let b = c .before .before .before .before in
-    let a = b .before .before .before .before in
-    let i = a .before .before in
-    let n = i .before .before .before .number in
-    let s = i .before .before .before .before .before .args in
-    laid-as (ended-joined (s .worker) (s .kind) (s .key) (n .result) (s .steps) (sym (both-of (i .before .before .kind-named .ensures) (i .before .answer-named .ensures)) ∙ i .if1 .taken) ∙ ap (λ (m : ℕ). endedLine (s .worker) (s .kind) (s .key) m (s .steps)) (n .ensures))
-    (laid-on (laid-on (laid-on (laid-on (a .put-field .ensures) (b .put-kind .ensures)) (c .put-field2 .ensures)) (d .put-answer .ensures)) (e .put-field3 .ensures))
+    let n = c .before .before .before .before .before .before .before .before .before .before .before .before .before .before .before .before .before .before .before .before .before .before .before .before .before .number in
+    let s = c .before .before .before .before .before .before .before .before .before .before .before .before .before .before .before .before .before .before .before .before .before .before .before .before .before .before .before .args in
+    laid-as (ended-joined (s .worker) (s .kind) (s .key) (n .result) (s .steps) (sym (both-of (c .before .before .before .before .before .before .before .before .before .before .before .before .before .before .before .before .before .before .before .before .before .before .before .before .kind-named .ensures) (c .before .before .before .before .before .before .before .before .before .before .before .before .before .before .before .before .before .before .before .before .before .before .before .answer-named .ensures)) ∙ c .before .before .before .before .before .before .before .before .before .before .before .before .before .before .before .before .before .before .before .before .before .before .if1 .taken) ∙ ap (λ (m : ℕ). endedLine (s .worker) (s .kind) (s .key) m (s .steps)) (n .ensures))
+    (laid-on (laid-on (laid-on (laid-on (c .before .before .before .before .before .before .before .before .before .before .before .before .before .before .before .before .before .before .before .before .put-field .ensures) (laid-as (ap named (c .before .before .before .before .before .before .before .before .before .before .before .before .before .before .before .before .kind-span .ensures) ∙ kind-spelled (s .kind)) (c .before .before .before .before .before .before .before .before .before .before .before .before .before .before .before .put-name .ensures))) (c .before .before .before .before .before .before .before .before .before .before .before .put-field2 .ensures)) (laid-as (ap named (c .before .before .before .before .before .before .before .answer-span .ensures) ∙ answer-spelled (n .result)) (c .before .before .before .before .before .before .put-name2 .ensures))) (c .before .before .put-field3 .ensures))
 
 returns-2 : tie.Need-returns-2
 returns-2 c =
@@ -73,9 +75,11 @@ put-ended-spec =
     kind-named-requires
     answer-named-requires
     put-field-requires
-    put-kind-requires
+    kind-span-requires
+    put-name-requires
     put-field-requires-2
-    put-answer-requires
+    answer-span-requires
+    put-name-requires-2
     put-field-requires-3
     within-requires
     same-length

@@ -1,0 +1,66 @@
+-- What is still to be printed, laid where the last line ended, is the whole text laid at the start: each turn of the loop leads on.
+-- Assumes nothing.
+use Prim.Native.Nat.{ℕ, zero, suc, _-_, _<_}
+use mathlib.Core.Bool.{Bool, true, false, false≢true, _&&_}
+use mathlib.Core.Path.{_≡_, refl, sym, _∙_}
+use mathlib.Core.List.{List, _++_}
+use native.Mathlib.Omega.{arith}
+use lib.Dec.{ltb}
+use borrow.Author.Tests.{lt-ltb}
+use Rattle.choice.proofs.Auto.{pick-true, pick-false}
+use Rattle.crew.specs.Crew.{Left}
+use Rattle.script.specs.Script.{entryAt, bodyAt}
+use Rattle.lines.specs.Text.{Laid}
+use Rattle.lines.proofs.Laying.{laid-on, laid-as}
+use Rattle.replay.specs.declared.Operation.{Operation}
+use Rattle.replay.specs.Play.{workerOf, numberIn, called, operationOf, callLine}
+use Rattle.replay.specs.Replay.{kindOf, nextOf, isPlayed, closed, followed}
+
+-- a text laid here is another text laid there: whatever the one leaves, the other does
+abbrev pub Leads : List ℕ → ℕ → List ℕ → List ℕ → ℕ → List ℕ → Type 0
+Leads out at text out₀ at₀ whole = (exit : List ℕ) (place : ℕ) → Laid out at text exit place → Laid out₀ at₀ whole exit place
+
+-- the loop's test: a turn is left, and the run goes on at the offset
+abbrev pub goes : List ℕ → ℕ → ℕ → Bool
+goes input turns offset = ltb 0 turns && isPlayed (kindOf (entryAt input offset))
+
+pub turns-left : (turns : ℕ) (b : Bool) → ltb 0 turns && b ≡ true → 0 < turns
+turns-left zero b e = absurd (false≢true e)
+turns-left (suc turns) b e = omega arith
+
+-- the call of the record at an offset
+abbrev pub nextCall : List ℕ → ℕ → Left → Left
+nextCall input offset l = let kind = kindOf (entryAt input offset) in called kind (workerOf (bodyAt input offset)) (numberIn kind (bodyAt input offset)) l
+
+-- nothing goes where one test fails
+pub and-false : (b : Bool) → b && false ≡ false
+and-false true = refl
+and-false false = refl
+
+-- one record more
+pub followed-on : (input : List ℕ) (turns offset : ℕ) (l : Left) → goes input turns offset ≡ true
+    → followed input turns offset l
+    ≡ callLine (operationOf (workerOf (bodyAt input offset)) (l .workers)) (nextCall input offset l .called) offset ++ followed input (turns - 1) (nextOf (entryAt input offset)) (nextCall input offset l)
+unfolding followed
+followed-on input zero offset l e = absurd (false≢true e)
+followed-on input (suc turns) offset l e =
+    let q : suc turns - 1 ≡ turns = omega arith in
+    rw q (pick-true (isPlayed (kindOf (entryAt input offset))) _ _ (rw (lt-ltb 0 (suc turns) (omega arith)) at e))
+
+-- no turn is left, or what stands there stops the run
+pub followed-stop : (input : List ℕ) (turns offset : ℕ) (l : Left) → goes input turns offset ≡ false
+    → followed input turns offset l ≡ closed input offset (l .called .header) (l .nodes)
+unfolding followed
+followed-stop input zero offset l e = refl
+followed-stop input (suc turns) offset l e = pick-false (isPlayed (kindOf (entryAt input offset))) _ _ (rw (lt-ltb 0 (suc turns) (omega arith)) at e)
+
+-- a record whose call was made and whose line was laid leads on
+module _ (input : List ℕ) (turns offset : ℕ) (l : Left) {out out₀ whole : List ℕ} {at at₀ : ℕ} where
+  pub leads-on : {kind w number next place : ℕ} {body exit : List ℕ} {o : Operation} {m : Left} → Leads out at (followed input turns offset l) out₀ at₀ whole → goes input turns offset ≡ true
+      → kind ≡ kindOf (entryAt input offset) → body ≡ bodyAt input offset → w ≡ workerOf body → number ≡ numberIn kind body → next ≡ nextOf (entryAt input offset)
+      → o ≡ operationOf w (l .workers) → m ≡ called kind w number l → Laid out at (callLine o (m .called) offset) exit place
+      → Leads exit place (followed input (turns - 1) next m) out₀ at₀ whole
+  leads-on {kind} {w} {number} {next} {place} {body} {exit} {o} {m} lead test k b v u n who is line end stop h = lead end stop (laid-as (sym turn) (laid-on line h))
+    where
+      turn : followed input turns offset l ≡ callLine o (m .called) offset ++ followed input (turns - 1) next m
+      turn = rw (who, is, u, v, k, b, n) (followed-on input turns offset l test)

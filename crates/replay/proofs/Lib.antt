@@ -1,0 +1,5 @@
+pub mod Laws
+pub mod Played
+pub mod Same
+pub mod Turns
+pub mod Whole

@@ -1,0 +1,15 @@
+-- It is a part of what stands there.
+-- Assumes nothing.
+use mathlib.Core.Path.{ap}
+use Rattle.replay.specs.declared.Stand.{Stand}
+use Rattle.replay.proofs.next_at.Statement.{statement}
+use Rattle.replay.proofs.next_at.Tie as tie
+
+stand-at-requires : tie.Need-stand-at-requires
+stand-at-requires c κs = tt
+
+returns : tie.Need-returns
+returns c = ap (λ (s : Stand). s .next) (c .stand-at .ensures)
+
+pub next-at-spec : {M : Type 1} → statement M
+next-at-spec = tie.close (tie.spec stand-at-requires returns)

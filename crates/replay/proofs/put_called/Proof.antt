@@ -1,0 +1,46 @@
+-- The answer's number says which line the definition has.
+-- Assumes nothing.
+use borrow.Author.Needs.{needs}
+use Rattle.replay.proofs.Played.{refused-line, other-line}
+use Rattle.lines.proofs.Laying.{laid-as}
+use Rattle.replay.proofs.put_called.Statement.{statement}
+use Rattle.replay.proofs.put_called.Tie as tie
+
+number-requires : tie.Need-number-requires
+number-requires c κs = tt
+
+put-line-requires : tie.Need-put-line-requires
+put-line-requires c κs = tt
+
+same-length : tie.Need-same-length
+same-length c = search needs
+
+returns : tie.Need-returns
+returns c =
+    let n = c .before .before .before .before .before .number in
+    let a = c .before .before .before .before .before .before .before .args in
+    laid-as (refused-line (a .operation) (a .called) (a .offset) (n .result) (n .ensures) (c .before .before .before .before .if1 .taken)) (c .before .before .put-line .ensures)
+
+put-line-requires-2 : tie.Need-put-line-requires-2
+put-line-requires-2 c κs = tt
+
+same-length-2 : tie.Need-same-length-2
+same-length-2 c = search needs
+
+returns-2 : tie.Need-returns-2
+returns-2 c =
+    let n = c .before .before .before .before .before .number in
+    let a = c .before .before .before .before .before .before .before .args in
+    laid-as (other-line (a .operation) (a .called) (a .offset) (n .result) (n .ensures) (c .before .before .before .before .if1 .left)) (c .before .before .put-line2 .ensures)
+
+pub put-called-spec : {M : Type 1} → statement M
+put-called-spec =
+    tie.close
+    (tie.spec
+    number-requires
+    put-line-requires
+    same-length
+    returns
+    put-line-requires-2
+    same-length-2
+    returns-2)

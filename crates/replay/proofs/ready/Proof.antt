@@ -1,0 +1,41 @@
+-- What is handed to the crew is what the definition names.
+-- Assumes nothing.
+use borrow.Author.Needs.{needs}
+use mathlib.Core.Path.{_≡_, refl}
+use Rattle.replay.specs.Play.{prepared}
+use Rattle.replay.proofs.ready.Statement.{statement}
+use Rattle.replay.proofs.ready.Tie as tie
+
+limits-of-requires : tie.Need-limits-of-requires
+limits-of-requires c κs = tt
+
+fresh-requires : tie.Need-fresh-requires
+fresh-requires c κs = tt
+
+blank-requires : tie.Need-blank-requires
+blank-requires c κs = tt
+
+prepare-bank-requires : tie.Need-prepare-bank-requires
+prepare-bank-requires c κs = tt
+
+same-length : tie.Need-same-length
+same-length c = search needs
+
+same-length-2 : tie.Need-same-length-2
+same-length-2 c = search needs
+
+returns : tie.Need-returns
+unfolding prepared
+returns c = rw (← (c .before .before .before .before .before .before .before .before .before .limits-of .ensures), ← (c .before .before .before .before .before .before .before .before .fresh .ensures), ← (c .before .before .before .before .before .before .before .blank .ensures)) (c .before .before .before .before .prepare-bank .ensures)
+
+pub ready-spec : {M : Type 1} → statement M
+ready-spec =
+    tie.close
+    (tie.spec
+    limits-of-requires
+    fresh-requires
+    blank-requires
+    prepare-bank-requires
+    same-length
+    same-length-2
+    returns)

@@ -1,0 +1,72 @@
+-- One record of a schedule: the call that it asks for, and the line that the call prints.
+use Prim.Native.Nat.{ℕ, _-_, _^_}
+use mathlib.Core.Bool.{Bool}
+use mathlib.Core.List.{List, []}
+use lib.Dec.{leb, eqb}
+use lib.ListN.{getD, replicate}
+use Rattle.choice.specs.Choice.{pick}
+use Rattle.names.specs.Names.{numberOf}
+use Rattle.names.specs.declared.Answer.the-variants.{Going}
+use Rattle.header.specs.declared.Header.{Header}
+use Rattle.header.specs.Header.{outside}
+use Rattle.record.specs.declared.Worker.{Worker}
+use Rattle.record.specs.Worker.{idle, within}
+use Rattle.prepare.specs.declared.Limits.{Limits}
+use Rattle.crew.specs.declared.Called.{Called}
+use Rattle.crew.specs.Crew.{Left, left, going, prepareAt, startAt, stepsAt}
+use Rattle.script.specs.Script.{littleEndian}
+use Rattle.lines.specs.Lines.{endedLine, refusedLine}
+use Rattle.replay.specs.declared.Operation.{Operation}
+
+-- ---- 00: exponent of M, K (2 bytes), W, L
+-- M is 2 to the exponent; an exponent outside 1 to 10 stands for no M, and preparing refuses 0 with 10
+unfoldable pub bucketsOf : ℕ → ℕ
+bucketsOf exponent = pick (outside 1 10 exponent) 0 (2 ^ exponent)
+
+abbrev pub limitsOf : List ℕ → Limits
+limitsOf body = record { m = bucketsOf (getD body 0 0); k = littleEndian 2 body 1; w = getD body 3 0; l = getD body 4 0 }
+
+-- no header yet
+abbrev pub blank : Header
+blank = record { m = 0; k = 0; w = 0; l = 0; size = 0; count = 0; busy = 0 }
+
+-- the register that the body asks for, over lent words
+unfoldable pub prepared : List ℕ → List ℕ → List ℕ → Left
+prepared body ns bs = prepareAt (limitsOf body) blank (replicate 16 idle) ns bs
+
+-- ---- the other kinds: a body's first byte is the worker
+abbrev pub workerOf : List ℕ → ℕ
+workerOf body = getD body 0 0
+
+-- and its number is the key (4 bytes) of 01, 02 and 03, the one step of 04, and the n steps of 05
+unfoldable pub numberIn : ℕ → List ℕ → ℕ
+numberIn kind body = pick (leb kind 3) (littleEndian 4 body 1) (pick (eqb kind 4) 1 (getD body 1 0))
+
+-- no step: going on, and all as it was
+abbrev pub stayed : Left → Left
+stayed l = left (record { answer = Going; steps = 0; header = l .called .header }) (l .workers) (l .nodes) (l .buckets)
+
+-- the call, on what the last call left: 01, 02, 03 a start; 04, 05 up to so many steps, ending after the first whose answer isn't 0
+unfoldable pub called : ℕ → ℕ → ℕ → Left → Left
+called kind w number l =
+    let h = l .called .header in
+    pick (leb kind 3) (startAt h (l .workers) w kind number (l .nodes) (l .buckets))
+    (pick (eqb number 0) (stayed l) (stepsAt h (l .workers) w (number - 1) (l .nodes) (l .buckets)))
+
+-- ---- the line of a call
+-- whose operation it is: the worker, and the kind and key that its record had as the call began
+abbrev pub operationOf : ℕ → List Worker → Operation
+operationOf w ws =
+    let x = getD ws w idle in
+    record { worker = w; kind = x .kind; key = x .key }
+
+-- 10 to 17 refuse a call; 18 and 19 end its operation
+abbrev pub refusal : ℕ → Bool
+refusal number = within 10 17 number
+
+-- nothing while the operation goes on; `refused number offset`; or, at its end, `worker kind key answer steps`
+unfoldable pub callLine : Operation → Called → ℕ → List ℕ
+callLine o c offset =
+    let number = numberOf (c .answer) in
+    pick (going (c .answer)) []
+    (pick (refusal number) (refusedLine number offset) (endedLine (o .worker) (o .kind) (o .key) number (c .steps)))

@@ -1,0 +1,11 @@
+// Runs the schedule on standard input, and writes the lines that it prints.
+use libc::STDIN_FILENO;
+use libc::STDOUT_FILENO;
+
+fn main() {
+    let mut input = [0u8; 65537];
+    let read = io::read_full(STDIN_FILENO, &mut input);
+    let mut out = [0u8; 589824];
+    let end = replay::run(&input[..read], &mut out);
+    io::write_all(STDOUT_FILENO, &out[..end]);
+}
