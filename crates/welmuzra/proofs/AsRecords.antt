@@ -1,0 +1,97 @@
+-- Over the words of records each test is the one over the records, and what is stored are the words of what is stored there.
+-- Assumes nothing.
+use Prim.Native.Nat.{ℕ, _≤_}
+use mathlib.Core.Path.{_≡_, refl, ap, _∙_}
+use mathlib.Core.Bool.{Bool, true, false, _&&_, false≢true}
+use mathlib.Core.List.{List}
+use lib.Dec.{ltb, leb, eqb}
+use lib.ListN.{length, getD, set}
+use lib.Seq.{set-getD}
+use borrow.Author.Tests.{leb-true, ltb-false}
+use Rattle.choice.specs.Choice.{pick}
+use Rattle.choice.proofs.Cases.{by-bool}
+use Rattle.names.specs.Names.{numberOf}
+use Rattle.names.specs.declared.Answer.{Answer}
+use Rattle.header.specs.Header.{limitBroken}
+use Rattle.header.specs.declared.Header.{Header}
+use Rattle.record.specs.declared.Worker.{Worker}
+use Rattle.record.specs.Worker.{idle}
+use Rattle.prepare.specs.declared.Limits.{Limits}
+use Rattle.writes.specs.declared.Outcome.{Outcome}
+use Rattle.names.specs.declared.Verdict.{Verdict}
+use Rattle.prepare.specs.Prepare.{Kept, freshHeader, prepareVerdict, preparedBy, prepared}
+use Rattle.header.specs.Header.{isShort}
+use Rattle.register.specs.Calls.{startOf, stepOf}
+use Rattle.promises.specs.Unchanged as un
+use Rattle.promises.proofs.Unchanged.{step-unchanged, start-unchanged}
+use Rattle.crew.specs.Crew as crew
+use Rattle.crew.specs.Crew.{left, turnAt, stepAt, startAt, prepareAt}
+use Rattle.welmuzra.specs.Words.{headerWords, recordOf, wordsAt}
+use Rattle.welmuzra.specs.Calls.{Own, own, lent, says, refuses, kept, stepWords, startWords, readied, prepareWords}
+use Rattle.welmuzra.specs.Promises.{packed, ownOf, wordsOf, StepAsRecords, StartAsRecords, PrepareAsRecords}
+use Rattle.welmuzra.proofs.Packed.{record-back, words-packed, stored-packed, few-packed, cleared-packed}
+
+-- a choice between what is made of two things is what is made of the choice
+chosen : {A B : Type 0} (f : A → B) (t : Bool) (x y : B) (a b : A) → x ≡ f a → (t ≡ false → y ≡ f b) → pick t x y ≡ f (pick t a b)
+unfolding pick
+chosen f true x y a b p q = p
+chosen f false x y a b p q = q refl
+
+refused-both : (s t : Bool) → s && t ≡ true → (s ≡ true) × (t ≡ true)
+refused-both true t e = (refl, e)
+refused-both false t e = absurd (false≢true e)
+
+refusal : (a : Answer) → refuses a ≡ true → un.Refusal a
+refusal a e =
+    let b = refused-both (leb 10 (numberOf a)) (leb (numberOf a) 17) e in
+    record { from = leb-true 10 (numberOf a) (b .0); upTo = leb-true (numberOf a) 17 (b .1) }
+
+-- record w of the packed records
+taken : (ws : List Worker) (w : ℕ) → recordOf (wordsAt (packed ws) w) ≡ getD ws w idle
+taken ws w = ap recordOf (words-packed ws w) ∙ record-back (getD ws w idle)
+
+-- what a start or a step hands back, stored in the words and in the records
+kept-packed :
+    (h : Header) (ws : List Worker) (w : ℕ) (o : Outcome) → (un.Refusal (o .answer) → un.HandedBack (turnAt h ws w) o)
+    → kept (headerWords h) (packed ws) w o ≡ own (says (o .answer) (o .steps)) (headerWords (o .header)) (packed (set ws w (o .worker)))
+unfolding kept
+kept-packed h ws w o back =
+    by-bool (λ (k : Own). k ≡ own (says (o .answer) (o .steps)) (headerWords (o .header)) (packed (set ws w (o .worker)))) (refuses (o .answer))
+    (λ e. let b = back (refusal (o .answer) e) in rw (b .header, b .worker, set-getD ws w idle))
+    (λ _. ap (own (says (o .answer) (o .steps)) (headerWords (o .header))) (stored-packed ws w (o .worker)))
+
+pub step-as-records : StepAsRecords
+unfolding stepWords stepAt
+step-as-records h ws w ns bs =
+    let a = stepOf (turnAt h ws w) ns bs in
+    rw (few-packed ws (h .w), taken ws w)
+    (chosen wordsOf (ltb (length ws) (h .w)) _ _ _ _ refl
+    (λ _. ap (λ (k : Own). lent k (a .nodes) (a .buckets)) (kept-packed h ws w (a .out) (λ r. step-unchanged (turnAt h ws w) ns bs r .back))))
+
+pub start-as-records : StartAsRecords
+unfolding startWords startAt
+start-as-records h ws w kind key ns bs =
+    let o = startOf (turnAt h ws w) kind key (length ns) (length bs) in
+    rw (few-packed ws (h .w), taken ws w)
+    (chosen ownOf (ltb (length ws) (h .w)) _ _ _ _ refl
+    (λ _. kept-packed h ws w o (start-unchanged (turnAt h ws w) kind key (length ns) (length bs))))
+
+-- what preparing hands back, in the words and in the records
+abbrev Readied : Limits → Header → List Worker → Kept → Type 0
+Readied l h ws k =
+    lent (readied (l .w) (headerWords h) (packed ws) (k .out)) (k .nodes) (k .buckets)
+    ≡ wordsOf (left (crew.ready (k .out)) (pick (eqb (numberOf (k .out .answer)) 0) (crew.idled (l .w) ws) ws) (k .nodes) (k .buckets))
+
+-- preparing is refused with 10 or 11, or done
+readied-packed : (l : Limits) (h : Header) (ws : List Worker) (ns bs : List ℕ) → l .w ≤ length ws → Readied l h ws (prepared l h ns bs)
+unfolding prepared prepareVerdict readied pick
+readied-packed l h ws ns bs enough =
+    by-bool (λ (v : Verdict). Readied l h ws (preparedBy l h ns bs v)) (limitBroken (freshHeader l)) (λ _. refl)
+    (λ _. by-bool (λ (v : Verdict). Readied l h ws (preparedBy l h ns bs v)) (isShort (freshHeader l) (length ns) (length bs)) (λ _. refl)
+    (λ _. rw (cleared-packed (l .w) ws enough)))
+
+pub prepare-as-records : PrepareAsRecords
+unfolding prepareWords prepareAt
+prepare-as-records l h ws ns bs =
+    rw (few-packed ws (l .w))
+    (chosen wordsOf (ltb (length ws) (l .w)) _ _ _ _ refl (λ e. readied-packed l h ws ns bs (ltb-false (length ws) (l .w) e)))

@@ -1,0 +1,5 @@
+pub mod Laws
+pub mod Same
+pub mod Packed
+pub mod Promises
+pub mod AsRecords

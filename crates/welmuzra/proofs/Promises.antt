@@ -1,0 +1,114 @@
+-- A call over words goes by the same tests as the register's own call; what that call hands back where it refuses is what it was handed.
+-- Assumes nothing.
+use Prim.Native.Nat.{ℕ, _*_, _+_, _≤_, _<_}
+use native.Mathlib.Omega.{arith}
+use mathlib.Core.Path.{_≡_, refl, sym, ap, _∙_}
+use mathlib.Core.Bool.{true}
+use mathlib.Core.List.{List}
+use lib.ListN.{length, getD}
+use borrow.Author.Tests.{le-leb, lt-leb, lt-ltb, le-ltb}
+use Rattle.choice.proofs.Auto.{pick-true, pick-false}
+use Rattle.choice.proofs.Cases.{by-bool}
+use Rattle.names.specs.Names.{D6, numberOf}
+use Rattle.names.specs.declared.Answer.{Answer}
+use Rattle.names.specs.declared.Answer.the-variants.{Damaged}
+use Rattle.header.specs.declared.Header.{Header}
+use Rattle.record.specs.declared.Worker.{Worker}
+use Rattle.faults.specs.Faults.{unknownName, workerDamaged}
+use Rattle.writes.specs.declared.Outcome.{Outcome}
+use Rattle.prepare.specs.declared.Prepared.{Prepared}
+use Rattle.names.specs.declared.Verdict.{Verdict}
+use Rattle.register.specs.Step.{refusedWith}
+use Rattle.prepare.specs.Prepare.{prepared}
+use Rattle.register.specs.Calls.{startOf, stepVerdict, steppedBy, stepOf}
+use Rattle.promises.specs.Unchanged as un
+use Rattle.promises.proofs.Unchanged.{step-unchanged, prepare-unchanged}
+use Rattle.crew.specs.Crew.{turn}
+use Rattle.welmuzra.specs.Words.{RECORD, zeros, headerOf, placeOf, recordOf, lacks, read, wordsAt}
+use Rattle.welmuzra.specs.Calls.{Own, own, Lent, lent, says, refuses, kept, turnOf, lacksRecords, stepWords, startWords, readied, prepareWords}
+use Rattle.welmuzra.specs.Promises.{Refused, StepUnchanged, StartUnchanged, PrepareUnchanged, NoRecord}
+
+-- the test of a refusal, and the refusal
+refused-test : (a : Answer) → 10 ≤ numberOf a → numberOf a ≤ 17 → refuses a ≡ true
+refused-test a l u = rw (le-leb 10 (numberOf a) l, le-leb (numberOf a) 17 u)
+
+refusal : (a : Answer) (steps : ℕ) → Refused (says a steps) → un.Refusal a
+refusal a steps r = record { from = r .from; upTo = r .upTo }
+
+-- header and records are as they came where the answer refuses
+kept-answer : (hs rs : List ℕ) (w : ℕ) (o : Outcome) → kept hs rs w o .reply ≡ says (o .answer) (o .steps)
+unfolding kept
+kept-answer hs rs w o = by-bool (λ (k : Own). k .reply ≡ says (o .answer) (o .steps)) (refuses (o .answer)) (λ _. refl) (λ _. refl)
+
+kept-refused : (hs rs : List ℕ) (w : ℕ) (o : Outcome) → un.Refusal (o .answer) → kept hs rs w o ≡ own (says (o .answer) (o .steps)) hs rs
+unfolding kept
+kept-refused hs rs w o r = pick-true _ _ _ (refused-test (o .answer) (r .from) (r .upTo))
+
+pub start-words-unchanged : StartUnchanged
+unfolding startWords
+start-words-unchanged hs rs w kind key nodes buckets =
+    by-bool (λ (k : Own). Refused (k .reply) → k ≡ own (k .reply) hs rs) (lacksRecords (length rs) (headerOf hs .w))
+    (λ _ r. refl)
+    (λ _ r.
+    let o = startOf (turnOf hs rs w) kind key nodes buckets in
+    let e = kept-refused hs rs w o (refusal (o .answer) (o .steps) (rw (kept-answer hs rs w o) at r)) in
+    e ∙ ap (λ (k : Own). own (k .reply) hs rs) (sym e))
+
+pub step-words-unchanged : StepUnchanged
+unfolding stepWords
+step-words-unchanged hs rs w ns bs =
+    by-bool (λ (k : Lent). Refused (k .left .reply) → k ≡ lent (own (k .left .reply) hs rs) ns bs) (lacksRecords (length rs) (headerOf hs .w))
+    (λ _ r. refl)
+    (λ _ r.
+    let t = turnOf hs rs w in
+    let o = stepOf t ns bs .out in
+    let f = refusal (o .answer) (o .steps) (rw (kept-answer hs rs w o) at r) in
+    let u = step-unchanged t ns bs f in
+    let e = kept-refused hs rs w o f in
+    rw (u .nodes, u .buckets) (ap (λ (k : Own). lent k ns bs) (e ∙ ap (λ (k : Own). own (k .reply) hs rs) (sym e))))
+
+readied-answer : (w : ℕ) (hs rs : List ℕ) (o : Prepared) → readied w hs rs o .reply ≡ says (o .answer) 0
+unfolding readied
+readied-answer w hs rs o = by-bool (λ (k : Own). k .reply ≡ says (o .answer) 0) (refuses (o .answer)) (λ _. refl) (λ _. refl)
+
+readied-refused : (w : ℕ) (hs rs : List ℕ) (o : Prepared) → un.Refusal (o .answer) → readied w hs rs o ≡ own (says (o .answer) 0) hs rs
+unfolding readied
+readied-refused w hs rs o r = pick-true _ _ _ (refused-test (o .answer) (r .from) (r .upTo))
+
+pub prepare-words-unchanged : PrepareUnchanged
+unfolding prepareWords
+prepare-words-unchanged l hs rs ns bs =
+    by-bool (λ (k : Lent). Refused (k .left .reply) → k ≡ lent (own (k .left .reply) hs rs) ns bs) (lacksRecords (length rs) (l .w))
+    (λ _ r. refl)
+    (λ _ r.
+    let o = prepared l (headerOf hs) ns bs .out in
+    let f = refusal (o .answer) 0 (rw (readied-answer (l .w) hs rs o) at r) in
+    let u = prepare-unchanged l (headerOf hs) ns bs f in
+    let e = readied-refused (l .w) hs rs o f in
+    rw (u .nodes, u .buckets) (ap (λ (k : Own). lent k ns bs) (e ∙ ap (λ (k : Own). own (k .reply) hs rs) (sym e))))
+
+-- ---- words that are no record
+unknown-place : (h : Header) (w : ℕ) (x : Worker) → D6 < x .place → workerDamaged h w x ≡ true
+unfolding workerDamaged unknownName
+unknown-place h w x u = rw (lt-ltb D6 (x .place) u)
+
+mark-read : (rs : List ℕ) (at : ℕ) → getD (read RECORD rs at) 11 0 ≡ getD rs (at + 11) 0
+unfolding read
+mark-read rs at = refl
+
+no-place : (rs : List ℕ) (w : ℕ) → w * RECORD + RECORD ≤ length rs → 1 < getD rs (w * RECORD + 11) 0 → recordOf (wordsAt rs w) .place ≡ D6 + 1
+unfolding wordsAt placeOf
+no-place rs w all bad =
+    rw (pick-false (lacks rs w) zeros (read RECORD rs (w * RECORD)) (le-ltb _ _ all), mark-read rs (w * RECORD))
+    (pick-true _ _ _ (lt-ltb _ _ bad))
+
+pub no-record : NoRecord
+unfolding stepWords stepOf stepVerdict
+no-record hs rs w ns bs sound enough long is-worker bad =
+    let h = headerOf hs in
+    let x = recordOf (wordsAt rs w) in
+    let d : workerDamaged h w x ≡ true = unknown-place h w x (rw (no-place rs w (omega arith) bad) (omega arith)) in
+    let v = pick-false _ _ _ sound ∙ pick-false _ _ _ long ∙ pick-false _ _ _ (lt-leb (h .w) w is-worker) ∙ pick-true _ _ _ d in
+    pick-false _ _ _ (le-ltb (length rs) (h .w * RECORD) enough) ∙
+    ap (λ (v : Verdict). let a = steppedBy (turn h w x) ns bs v in lent (kept hs rs w (a .out)) (a .nodes) (a .buckets)) v ∙
+    ap (λ (k : Own). lent k ns bs) (kept-refused hs rs w (refusedWith Damaged (turn h w x)) (record { from = omega arith; upTo = omega arith }))

@@ -1,0 +1,43 @@
+-- Each contract says what is answered and what every lent word is at exit as one definition of what was handed in, so two runs that meet it agree in all of it.
+-- Assumes nothing.
+use Prim.Native.Nat.{ℕ}
+use mathlib.Core.Path.{_≡_, sym, ap, _∙_}
+use mathlib.Core.List.{List}
+use contract.Lifetimes.{Lfts}
+use denote.Triple.Clauses.{AtExit}
+use denote.Ref.{now}
+use borrow.Fn.Kinds.{Dens, resT, endedOf}
+use Rattle.welmuzra.specs.declared.Reply.{Reply}
+use Rattle.welmuzra.specs.Calls.{Own, own, Lent, lent}
+use Rattle.welmuzra.proofs.welmuzra_prepare.Reads as prepare
+use Rattle.welmuzra.proofs.welmuzra_prepare.Kinds as prepare-kinds
+use Rattle.welmuzra.proofs.welmuzra_start.Reads as start
+use Rattle.welmuzra.proofs.welmuzra_start.Kinds as start-kinds
+use Rattle.welmuzra.proofs.welmuzra_step.Reads as step
+use Rattle.welmuzra.proofs.welmuzra_step.Kinds as step-kinds
+
+-- what two calls leave that leave the same: the same answer, and the same words of header, records, nodes and buckets
+same : (l : Lent) (x y : Reply) (hs hs′ rs rs′ ns ns′ bs bs′ : List ℕ) → lent (own x hs rs) ns bs ≡ l → lent (own y hs′ rs′) ns′ bs′ ≡ l
+    → (x ≡ y) × (hs ≡ hs′) × (rs ≡ rs′) × (ns ≡ ns′) × (bs ≡ bs′)
+same l x y hs hs′ rs rs′ ns ns′ bs bs′ p q =
+    let e = p ∙ sym q in
+    (ap (λ (k : Lent). k .left .reply) e, ap (λ (k : Lent). k .left .header) e, ap (λ (k : Lent). k .left .records) e, ap (λ (k : Lent). k .nodes) e, ap (λ (k : Lent). k .buckets) e)
+
+-- two preparings on the same arguments
+pub prepare-same : (κs : Lfts 4) (a : Dens κs prepare-kinds.ps) (x y : resT prepare-kinds.r κs .Denot) (e f : AtExit (endedOf 4 prepare-kinds.ps prepare-kinds.r) κs)
+    → prepare.Post κs a x e → prepare.Post κs a y f
+    → (x ≡ y) × (now (e .0) ≡ now (f .0)) × (now (e .1 .0) ≡ now (f .1 .0)) × (now (e .1 .1 .0) ≡ now (f .1 .1 .0)) × (now (e .1 .1 .1 .0) ≡ now (f .1 .1 .1 .0))
+prepare-same κs a x y e f p q = same _ x y (now (e .0)) (now (f .0)) (now (e .1 .0)) (now (f .1 .0)) (now (e .1 .1 .0)) (now (f .1 .1 .0)) (now (e .1 .1 .1 .0)) (now (f .1 .1 .1 .0)) p q
+
+-- two starts; a start is lent nodes and buckets to read
+pub start-same : (κs : Lfts 4) (a : Dens κs start-kinds.ps) (x y : resT start-kinds.r κs .Denot) (e f : AtExit (endedOf 4 start-kinds.ps start-kinds.r) κs)
+    → start.Post κs a x e → start.Post κs a y f → (x ≡ y) × (now (e .0) ≡ now (f .0)) × (now (e .1 .0) ≡ now (f .1 .0))
+start-same κs a x y e f p q =
+    let r = p ∙ sym q in
+    (ap (λ (k : Own). k .reply) r, ap (λ (k : Own). k .header) r, ap (λ (k : Own). k .records) r)
+
+-- two steps
+pub step-same : (κs : Lfts 4) (a : Dens κs step-kinds.ps) (x y : resT step-kinds.r κs .Denot) (e f : AtExit (endedOf 4 step-kinds.ps step-kinds.r) κs)
+    → step.Post κs a x e → step.Post κs a y f
+    → (x ≡ y) × (now (e .0) ≡ now (f .0)) × (now (e .1 .0) ≡ now (f .1 .0)) × (now (e .1 .1 .0) ≡ now (f .1 .1 .0)) × (now (e .1 .1 .1 .0) ≡ now (f .1 .1 .1 .0))
+step-same κs a x y e f p q = same _ x y (now (e .0)) (now (f .0)) (now (e .1 .0)) (now (f .1 .0)) (now (e .1 .1 .0)) (now (f .1 .1 .0)) (now (e .1 .1 .1 .0)) (now (f .1 .1 .1 .0)) p q

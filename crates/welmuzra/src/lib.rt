@@ -1,0 +1,317 @@
+// The register as a library that C links, over plain words: any word is a word, where a caller's bool or struct could be none.
+ghost use mathlib.Core.Path.{_≡_};
+ghost use mathlib.Core.Bool.{false};
+ghost use Prim.Native.Nat.{_≤_, _*_};
+ghost use lib.ListN.{length};
+ghost use Rattle.crew.specs.Crew.{tooFew, tooFewFor};
+ghost use Rattle.welmuzra.specs.Words.{RECORD, headerOf, headerWords, placeOf, markWord, recordWith, recordOf, recordWords, wordsAt, stored};
+ghost use Rattle.welmuzra.specs.Calls.{own, lent, turnOf, lacksRecords, says, refuses, kept, stepWords, startWords, limits, readied, prepareWords};
+use header::Header;
+use names::Answer;
+use names::place;
+use prepare::Limits;
+use prepare::Prepared;
+use record::Worker;
+use register::Turn;
+use writes::Outcome;
+
+// What a call answers: the scope paper's number, and at an ended answer the operation's steps.
+#[repr(C)]
+pub struct Reply {
+    pub answer: u32,
+    pub steps: u32,
+}
+
+// The header that seven words are.
+fn header_of(words: [u32; 7]) -> Header
+    ensures { λ r. ⌜ r ≡ headerOf words ⌝ }
+{
+    Header {
+        m: words[0],
+        k: words[1],
+        w: words[2],
+        l: words[3],
+        size: words[4],
+        count: words[5],
+        busy: words[6],
+    }
+}
+
+// The seven words of a header.
+fn header_words(h: Header) -> [u32; 7]
+    ensures { λ r. ⌜ r ≡ headerWords h ⌝ }
+{
+    [h.m, h.k, h.w, h.l, h.size, h.count, h.busy]
+}
+
+// A mark that is neither 0 nor 1 makes no record: its place is an unknown one.
+fn place_of(mark: u32, place: u32) -> u32
+    ensures { λ r. ⌜ r ≡ placeOf mark place ⌝ }
+{
+    if 1 < mark {
+        return place::D6 + 1;
+    }
+    place
+}
+
+// The record of a place and of fourteen words more.
+fn record_with(place: u32, words: [u32; 15]) -> Worker
+    ensures { λ r. ⌜ r ≡ recordWith place words ⌝ }
+{
+    Worker {
+        place,
+        errand: words[1],
+        kind: words[2],
+        key: words[3],
+        wanted: words[4],
+        making: words[5],
+        size: words[6],
+        start: words[7],
+        prev: words[8],
+        cur: words[9],
+        next: words[10],
+        marked: words[11] == 1,
+        held: words[12],
+        dummy: words[13],
+        steps: words[14],
+    }
+}
+
+// The record that fifteen words are.
+fn record_of(words: [u32; 15]) -> Worker
+    ensures { λ r. ⌜ r ≡ recordOf words ⌝ }
+{
+    record_with(place_of(words[11], words[0]), words)
+}
+
+// The word of a mark.
+fn mark_word(marked: bool) -> u32
+    ensures { λ r. ⌜ r ≡ markWord marked ⌝ }
+{
+    if marked {
+        return 1;
+    }
+    0
+}
+
+// The fifteen words of a record.
+fn record_words(x: Worker) -> [u32; 15]
+    ensures { λ r. ⌜ r ≡ recordWords x ⌝ }
+{
+    let mark = mark_word(x.marked);
+    [
+        x.place,
+        x.errand,
+        x.kind,
+        x.key,
+        x.wanted,
+        x.making,
+        x.size,
+        x.start,
+        x.prev,
+        x.cur,
+        x.next,
+        mark,
+        x.held,
+        x.dummy,
+        x.steps,
+    ]
+}
+
+// The words of record w.
+fn words_at(records: &[u32], w: u32) -> [u32; 15]
+    ensures { λ r. ⌜ r ≡ wordsAt (now (records .entry)) w ⌝ }
+{
+    let mut words = [0u32; 15];
+    let at = (w as usize) * 15;
+    if records.len() < at + 15 {
+        return words;
+    }
+    let mut i: usize = 0;
+    while i < 15 {
+        words[i] = records[at + i];
+        i += 1;
+    }
+    words
+}
+
+// The words of record w are stored in its place.
+fn store_record(records: &mut [u32], w: u32, words: [u32; 15])
+    ensures { λ _. ⌜ now (records .exit) ≡ stored (now (records .entry)) w words ⌝ }
+{
+    let at = (w as usize) * 15;
+    if records.len() < at + 15 {
+        return;
+    }
+    let mut i: usize = 0;
+    while i < 15 {
+        records[at + i] = words[i];
+        i += 1;
+    }
+}
+
+// What worker w's call goes by: the header and its record.
+fn turn_of(header: [u32; 7], records: &[u32], w: u32) -> Turn
+    ensures { λ r. ⌜ r ≡ turnOf header (now (records .entry)) w ⌝ }
+{
+    let h = header_of(header);
+    let worker = record_of(words_at(records, w));
+    Turn {
+        number: w,
+        header: h,
+        worker,
+    }
+}
+
+// So many words are fewer than W records.
+fn lacks_records(len: usize, w: u32) -> bool
+    ensures { λ r. ⌜ r ≡ lacksRecords len w ⌝ }
+{
+    (len as u64) < (w as u64) * 15
+}
+
+// 12, then 11: there are fewer records than W.
+fn too_few(header: Header) -> Answer
+    ensures { λ r. ⌜ r ≡ tooFew header ⌝ }
+{
+    if header.damaged() {
+        return Answer::Damaged;
+    }
+    Answer::Short
+}
+
+// 10, then 11: there are fewer records than the W that is asked for.
+fn too_few_for(limits: Limits) -> Answer
+    ensures { λ r. ⌜ r ≡ tooFewFor limits ⌝ }
+{
+    let fresh = Header {
+        m: limits.m,
+        k: limits.k,
+        w: limits.w,
+        l: limits.l,
+        size: 2,
+        count: 0,
+        busy: 0,
+    };
+    if fresh.limit_broken() {
+        return Answer::Limit;
+    }
+    Answer::Short
+}
+
+// An answer by its number.
+fn says(answer: Answer, steps: u32) -> Reply
+    ensures { λ r. ⌜ r ≡ says answer steps ⌝ }
+{
+    Reply {
+        answer: answer.number(),
+        steps,
+    }
+}
+
+// The answers that change no word.
+fn refuses(answer: Answer) -> bool
+    ensures { λ r. ⌜ r ≡ refuses answer ⌝ }
+{
+    let number = answer.number();
+    (10 <= number) & (number <= 17)
+}
+
+// What a start or a step hands back goes into the words, unless it is refused.
+fn keep(header: &mut [u32; 7], records: &mut [u32], w: u32, out: Outcome) -> Reply
+    ensures { λ r. ⌜ own r (now (header .exit)) (now (records .exit)) ≡ kept (now (header .entry)) (now (records .entry)) w out ⌝ }
+{
+    let answer = out.answer;
+    if refuses(answer) {
+        return says(answer, out.steps);
+    }
+    let words = header_words(out.header);
+    *header = words;
+    store_record(records, w, record_words(out.worker));
+    says(answer, out.steps)
+}
+
+// One step of worker w.
+#[no_mangle]
+pub extern "C" fn welmuzra_step(
+    header: &mut [u32; 7],
+    records: &mut [u32],
+    nodes: &mut [u32],
+    buckets: &mut [u32],
+    w: u32,
+) -> Reply
+    ensures { λ r. ⌜ lent (own r (now (header .exit)) (now (records .exit))) (now (nodes .exit)) (now (buckets .exit)) ≡ stepWords (now (header .entry)) (now (records .entry)) w (now (nodes .entry)) (now (buckets .entry)) ⌝ }
+{
+    let turn = turn_of(*header, &records[..], w);
+    if lacks_records(records.len(), turn.header.w) {
+        return says(too_few(turn.header), 0);
+    }
+    let out = turn.step(nodes, buckets);
+    keep(header, records, w, out)
+}
+
+// Worker w starts an operation of this kind on this key.
+#[no_mangle]
+pub extern "C" fn welmuzra_start(
+    header: &mut [u32; 7],
+    records: &mut [u32],
+    nodes: &[u32],
+    buckets: &[u32],
+    w: u32,
+    kind: u32,
+    key: u32,
+) -> Reply
+    ensures { λ r. ⌜ own r (now (header .exit)) (now (records .exit)) ≡ startWords (now (header .entry)) (now (records .entry)) w kind key (length (now (nodes .entry))) (length (now (buckets .entry))) ⌝ }
+{
+    let turn = turn_of(*header, &records[..], w);
+    if lacks_records(records.len(), turn.header.w) {
+        return says(too_few(turn.header), 0);
+    }
+    let out = turn.start(kind, key, nodes, buckets);
+    keep(header, records, w, out)
+}
+
+// How many words W records are.
+fn words_of(w: u32) -> u32
+    requires { ⌜ w ≤ 16 ⌝ }
+    ensures { λ r. ⌜ r ≡ w * RECORD ⌝ }
+{
+    w * 15
+}
+
+// What preparing hands back goes into the words, unless it is refused.
+fn ready(header: &mut [u32; 7], records: &mut [u32], w: u32, out: Prepared) -> Reply
+    requires { ⌜ (refuses (out .answer) ≡ false → w ≤ 16) ⌝ }
+    ensures { λ r. ⌜ own r (now (header .exit)) (now (records .exit)) ≡ readied w (now (header .entry)) (now (records .entry)) out ⌝ }
+{
+    let answer = out.answer;
+    if refuses(answer) {
+        return says(answer, 0);
+    }
+    let words = header_words(out.header);
+    *header = words;
+    scans::clear(records, words_of(w));
+    says(answer, 0)
+}
+
+// A register of M buckets, K key nodes, W workers and load L.
+#[no_mangle]
+pub extern "C" fn welmuzra_prepare(
+    header: &mut [u32; 7],
+    records: &mut [u32],
+    nodes: &mut [u32],
+    buckets: &mut [u32],
+    m: u32,
+    k: u32,
+    w: u32,
+    l: u32,
+) -> Reply
+    ensures { λ r. ⌜ lent (own r (now (header .exit)) (now (records .exit))) (now (nodes .exit)) (now (buckets .exit)) ≡ prepareWords (limits m k w l) (now (header .entry)) (now (records .entry)) (now (nodes .entry)) (now (buckets .entry)) ⌝ }
+{
+    let limits = Limits { m, k, w, l };
+    if lacks_records(records.len(), w) {
+        return says(too_few_for(limits), 0);
+    }
+    let out = limits.prepare(header_of(*header), nodes, buckets);
+    ready(header, records, w, out)
+}
