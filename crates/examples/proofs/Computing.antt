@@ -1,6 +1,7 @@
 -- All that a call computes with: where these unfold, a closed run is computed to its end.
 use Rattle.choice.specs.Choice.{pick}
-use Rattle.split.specs.Split.{rev, reverse, regular, dummy, par, parentOf, climb, ancestors, among, before, justBefore, onPath, nextDown, powerBelow, powerOfTwo, powerUpTo}
+use Rattle.split.specs.Split.{rev, reverse, regular, dummy}
+use Rattle.tree.specs.Tree.{par, parentOf, climb, ancestors, among, before, justBefore, onPath, nextDown, powerBelow, powerOfTwo, powerUpTo}
 use Rattle.words.specs.Words.{word, put, bucket, store, linkWord, linkTo, isTo}
 use Rattle.sets.specs.Sets.{bit, isIn, dropped, raised}
 use Rattle.scans.specs.Scans.{leave, sweep, freeFrom, lowest, cleared, isKey, keysFrom}

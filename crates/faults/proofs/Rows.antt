@@ -10,8 +10,8 @@ use lib.Dec.{ltb, eqb}
 use borrow.Author.Tests.{eqb-true, eqb-false}
 use Rattle.choice.proofs.Exactly.{Tells}
 use Rattle.choice.proofs.Telling.{tells-as, tells-eq, tells-lt, tells-le, tells-or, tells-and, tells-not, tells-broken, Clears, clears-as, clears-eq, clears-lt, clears-not, clears-or, clears-and}
-use Rattle.split.specs.Split.{parentOf, onPath}
-use Rattle.split.proofs.Laws.Path.{along-path, on-path-self, on-path-below}
+use Rattle.tree.specs.Tree.{parentOf, onPath}
+use Rattle.tree.proofs.Laws.Path.{along-path, on-path-self, on-path-below}
 use Rattle.sets.specs.Sets.{bit, isIn}
 use Rattle.names.specs.Names.{IDLE, I1, B2, B4, F1, L2, B8, I8, I9, I10, D4A, D6, KEY, DUMMY, EXTRA, INSERT, DELETE, KEY-LIMIT}
 use Rattle.header.specs.Header.{nodesOf}

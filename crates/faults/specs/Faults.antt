@@ -2,7 +2,7 @@
 use Prim.Native.Nat.{ℕ, _+_}
 use mathlib.Core.Bool.{Bool, not, _&&_, _||_}
 use lib.Dec.{leb, ltb, eqb}
-use Rattle.split.specs.Split.{onPath, powerUpTo}
+use Rattle.tree.specs.Tree.{onPath, powerUpTo}
 use Rattle.sets.specs.Sets.{isIn}
 use Rattle.names.specs.Names.{IDLE, I1, B2, B4, F1, L2, B8, I8, I9, I10, D4A, D6, KEY, DUMMY, EXTRA, INSERT, DELETE, KEY-LIMIT}
 use Rattle.header.specs.Header.{nodesOf}

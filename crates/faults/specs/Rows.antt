@@ -3,7 +3,7 @@ use Prim.Native.Nat.{ℕ, zero, suc, _≤_, _<_}
 use mathlib.Core.Path.{_≡_}
 use mathlib.Core.Logic.{_⊎_}
 use mathlib.Core.List.{List, [], _∷_}
-use Rattle.split.specs.Split.{parentOf}
+use Rattle.tree.specs.Tree.{parentOf}
 use Rattle.sets.specs.Sets.{bit}
 use Rattle.names.specs.Names.{IDLE, I1, SZ, TB, B2, B4, F1, F2, F3, F4, L2, B8, I8, I9, I10, D4A, D4B, D6, KEY, DUMMY, EXTRA, INSERT, FIND, DELETE, KEY-LIMIT}
 use Rattle.header.specs.Header.{nodesOf}

@@ -93,7 +93,7 @@ fn making_astray(x: Worker) -> bool
     ensures { λ r. ⌜ r ≡ makingAstray x ⌝ }
 {
     if (x.place == place::B2) | (x.place == place::B4) | (x.place == place::B8) {
-        return (x.making == 0) | !split::on_path(x.wanted, x.making);
+        return (x.making == 0) | !tree::on_path(x.wanted, x.making);
     }
     false
 }
@@ -102,7 +102,7 @@ fn size_misfit(x: Worker, h: Header) -> bool
     ensures { λ r. ⌜ r ≡ sizeMisfit h x ⌝ }
 {
     if (place::I9 <= x.place) & (x.place <= place::I10) {
-        return !split::power_up_to(h.m, x.size) | ((x.place == place::I10) & (h.m <= x.size));
+        return !tree::power_up_to(h.m, x.size) | ((x.place == place::I10) & (h.m <= x.size));
     }
     false
 }

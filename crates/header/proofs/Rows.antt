@@ -11,8 +11,8 @@ use lib.Pow.{pow-mono, pow-pos}
 use borrow.Author.Tests.{leb-true, leb-false}
 use Rattle.choice.proofs.Exactly.{Tells}
 use Rattle.choice.proofs.Telling.{tells-as, tells-eq, tells-le, tells-or, tells-and, tells-broken, Clears, clears-as, clears-lt, clears-le, clears-not, clears-or}
-use Rattle.split.specs.Split.{powerBelow, powerOfTwo, powerUpTo}
-use Rattle.split.proofs.Laws.Power.{top-bit}
+use Rattle.tree.specs.Tree.{powerBelow, powerOfTwo, powerUpTo}
+use Rattle.tree.proofs.Laws.Power.{top-bit}
 use Rattle.sets.specs.Sets.{bit}
 use Rattle.sets.proofs.Laws.{bit-far}
 use Rattle.header.specs.Header.{nodesOf, outside, limitBroken, sizeBroken, busyBeyond, headerDamaged}

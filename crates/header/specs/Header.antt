@@ -3,7 +3,7 @@ use Prim.Native.Nat.{ℕ, _+_, _*_, _/_, _^_}
 use mathlib.Core.Bool.{Bool, true, false, not, _&&_, _||_}
 use lib.Dec.{leb, ltb, eqb}
 use Rattle.choice.specs.Choice.{pick}
-use Rattle.split.specs.Split.{powerUpTo}
+use Rattle.tree.specs.Tree.{powerUpTo}
 use Rattle.header.specs.declared.Header.{Header}
 
 -- the header with another size, count or set of busy workers; antt has no update of a record

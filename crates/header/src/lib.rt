@@ -25,7 +25,7 @@ impl Header {
     pub fn limit_broken(self) -> bool
         ensures { λ r. ⌜ r ≡ limitBroken self ⌝ }
     {
-        !split::power_up_to(1024, self.m)
+        !tree::power_up_to(1024, self.m)
             | ((self.k < 1) | (4096 < self.k))
             | ((self.w < 1) | (16 < self.w))
             | ((self.l < 1) | (8 < self.l))
@@ -34,7 +34,7 @@ impl Header {
     fn size_broken(self) -> bool
         ensures { λ r. ⌜ r ≡ sizeBroken self ⌝ }
     {
-        !split::power_up_to(self.m, self.size)
+        !tree::power_up_to(self.m, self.size)
     }
 
     // A word has no bit at 32 or above.

@@ -4,7 +4,8 @@ use Prim.Native.Nat.{ℕ, _+_, _*_, _/_, _%_}
 use mathlib.Core.Bool.{Bool, true, false, not, _&&_, _||_}
 use lib.Dec.{ltb, eqb}
 use Rattle.choice.specs.Choice.{pick}
-use Rattle.split.specs.Split.{regular, dummy, parentOf, nextDown}
+use Rattle.split.specs.Split.{regular, dummy}
+use Rattle.tree.specs.Tree.{parentOf, nextDown}
 use Rattle.words.specs.Words.{isTo}
 use Rattle.names.specs.Names.{I1, SZ, TB, B2, B4, F1, F2, F3, F4, L2, B8, I8, I9, I10, D4A, D4B, D6, KEY, DUMMY, EXTRA, INSERT, FIND}
 use Rattle.names.specs.declared.Answer.the-variants.{Yes, No, NoKeyNode, NoDummy}

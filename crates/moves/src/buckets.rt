@@ -42,7 +42,7 @@ impl Seen {
             return Move::Damaged;
         }
         if self.word == 0 {
-            x.making = split::parent(x.making);
+            x.making = tree::parent(x.making);
             return Move::Going {
                 worker: x,
                 effect: Effect::Nothing,
@@ -96,7 +96,7 @@ impl Seen {
             x.place = place::TB;
             return Move::Going { worker: x, effect };
         }
-        x.making = split::next_down(x.wanted, x.making);
+        x.making = tree::next_down(x.wanted, x.making);
         x.place = place::B2;
         Move::Going { worker: x, effect }
     }

@@ -2,7 +2,8 @@
 -- Assumes nothing.
 use mathlib.Core.Path.{refl}
 use Rattle.choice.specs.Choice.{pick}
-use Rattle.split.specs.Split.{rev, reverse, regular, dummy, par, parentOf}
+use Rattle.split.specs.Split.{rev, reverse, regular, dummy}
+use Rattle.tree.specs.Tree.{par, parentOf}
 use Rattle.header.specs.Header.{doubles}
 use Rattle.promises.specs.Figures.{figures, EachRight}
 

@@ -1,4 +1,5 @@
 pub mod Figures
+pub mod Order
 pub mod Fresh
 pub mod Stores
 pub mod Shape

@@ -5,12 +5,12 @@ use mathlib.Core.Bool.{true≢false}
 use mathlib.Core.Path.{_≡_, refl, ap}
 use native.Mathlib.Omega.{arith}
 use Rattle.choice.specs.Choice.{pick}
-use Rattle.split.specs.Split.{rev, reverse, regular, dummy, par, parentOf, climb, ancestors, among, onPath, powerBelow, powerOfTwo}
+use Rattle.split.specs.Split.{rev, reverse, regular, dummy}
+use Rattle.tree.specs.Tree.{par, parentOf, climb, ancestors, among, onPath, powerBelow, powerOfTwo, powerUpTo}
 use Rattle.words.specs.Words.{LINK, STANDING, word, put, bucket, store, linkWord, linkTo, isTo}
 use Rattle.sets.specs.Sets.{bit, isIn, dropped, raised}
 use Rattle.scans.specs.Scans.{leave, sweep, freeFrom, lowest}
 use Rattle.names.specs.Names.{numberOf}
-use Rattle.split.specs.Split.{powerUpTo}
 use Rattle.header.specs.Header.{limitBroken, sizeBroken, busyBeyond, headerDamaged, doubles}
 use Rattle.record.specs.Worker.{begun, heldKey, heldDummy}
 use Rattle.faults.specs.Faults.{unknownName, bucketBeyond, nodeBeyond, bitDisagrees, idleNotZero, kindMisfit, errandMisfit, makingAstray, sizeMisfit, workerDamaged}

@@ -4,7 +4,7 @@ use mathlib.Core.List.{List}
 use mathlib.Core.Logic.{_⊎_}
 use mathlib.Core.Path.{_≡_}
 use lib.ListN.{length}
-use Rattle.split.specs.Split.{parentOf}
+use Rattle.tree.specs.Tree.{parentOf}
 use Rattle.words.specs.Words.{SPLIT-KEY, LINK, STANDING, word, bucket}
 use Rattle.names.specs.Names.{I1, TB, B2, B4, F1, F2, F3, F4, L2, B8, D4A, D4B}
 use Rattle.names.specs.declared.Answer.{Answer}

@@ -3,7 +3,8 @@ use Prim.Native.Nat.{ℕ}
 use mathlib.Core.Bool.{Bool, true, false}
 use mathlib.Core.List.{List, [], _∷_}
 use mathlib.Core.Path.{_≡_}
-use Rattle.split.specs.Split.{regular, dummy, parentOf}
+use Rattle.split.specs.Split.{regular, dummy}
+use Rattle.tree.specs.Tree.{parentOf}
 use Rattle.header.specs.declared.Header.{Header}
 use Rattle.header.specs.Header.{doubles}
 

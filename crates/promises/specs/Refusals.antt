@@ -6,7 +6,7 @@ use mathlib.Core.Logic.{_⊎_, _↔_}
 use mathlib.Core.Path.{_≡_}
 use lib.ListN.{length}
 use Rattle.choice.specs.Table.{Claims, done, row, RefusedBy}
-use Rattle.split.specs.Split.{parentOf}
+use Rattle.tree.specs.Tree.{parentOf}
 use Rattle.words.specs.Words.{SPLIT-KEY, LINK, STANDING, word, bucket}
 use Rattle.names.specs.Names.{IDLE, I1, TB, B2, B4, F1, F2, F3, F4, L2, B8, D4A, D4B, KEY, DUMMY, INSERT, FIND, DELETE, numberOf}
 use Rattle.names.specs.declared.Answer.{Answer}

@@ -3,7 +3,7 @@ use Prim.Native.Nat.{ℕ, _+_, _<_}
 use mathlib.Core.List.{List}
 use lib.Dec.{eqb}
 use Rattle.choice.specs.Choice.{pick}
-use Rattle.split.specs.Split.{parentOf}
+use Rattle.tree.specs.Tree.{parentOf}
 use Rattle.words.specs.Words.{SPLIT-KEY, LINK, word, bucket}
 use Rattle.scans.specs.Scans.{lowest}
 use Rattle.names.specs.Names.{I1, TB, B2, B4, F1, F2, F3, F4, L2, D4A, D4B}

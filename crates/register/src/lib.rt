@@ -136,7 +136,7 @@ impl Turn {
         match place {
             place::I1 => scans::lowest(nodes, h.m + h.w + 1, h.m + h.w + h.k),
             place::TB => words::bucket(buckets, x.wanted),
-            place::B2 => words::bucket(buckets, split::parent(x.making)),
+            place::B2 => words::bucket(buckets, tree::parent(x.making)),
             place::B4 => scans::lowest(nodes, 1, h.m + h.w),
             place::F1 => words::word(nodes, x.start, words::LINK),
             place::F2 => words::word(nodes, x.cur, words::LINK),

@@ -16,7 +16,7 @@ use Rattle.names.specs.Names.{numberOf}
 use Rattle.names.specs.declared.Answer.the-variants.{Limit, Short}
 use Rattle.header.specs.declared.Header.{Header}
 use Rattle.header.specs.Header.{outside, limitBroken}
-use Rattle.split.specs.Split.{powerUpTo}
+use Rattle.tree.specs.Tree.{powerUpTo}
 use Rattle.record.specs.declared.Worker.{Worker}
 use Rattle.record.specs.Worker.{idle, within}
 use Rattle.prepare.specs.declared.Limits.{Limits}

@@ -6,29 +6,9 @@ use Rattle.split.proofs.regular_key.Reads as regular-key
 use Rattle.split.proofs.regular_key.Kinds as regular-key-kinds
 use Rattle.split.proofs.dummy_key.Reads as dummy-key
 use Rattle.split.proofs.dummy_key.Kinds as dummy-key-kinds
-use Rattle.split.proofs.parent.Reads as parent
-use Rattle.split.proofs.parent.Kinds as parent-kinds
-use Rattle.split.proofs.on_path.Reads as on-path
-use Rattle.split.proofs.on_path.Kinds as on-path-kinds
-use Rattle.split.proofs.next_down.Reads as next-down
-use Rattle.split.proofs.next_down.Kinds as next-down-kinds
-use Rattle.split.proofs.power_up_to.Reads as power-up-to
-use Rattle.split.proofs.power_up_to.Kinds as power-up-to-kinds
 
 pub regular-key-same : Determined 0 regular-key-kinds.ps regular-key-kinds.r regular-key.Post
 regular-key-same κs a x y e f p q = p ∙ sym q
 
 pub dummy-key-same : Determined 0 dummy-key-kinds.ps dummy-key-kinds.r dummy-key.Post
 dummy-key-same κs a x y e f p q = p ∙ sym q
-
-pub parent-same : Determined 0 parent-kinds.ps parent-kinds.r parent.Post
-parent-same κs a x y e f p q = p ∙ sym q
-
-pub on-path-same : Determined 0 on-path-kinds.ps on-path-kinds.r on-path.Post
-on-path-same κs a x y e f p q = p ∙ sym q
-
-pub next-down-same : Determined 0 next-down-kinds.ps next-down-kinds.r next-down.Post
-next-down-same κs a x y e f p q = p ∙ sym q
-
-pub power-up-to-same : Determined 0 power-up-to-kinds.ps power-up-to-kinds.r power-up-to.Post
-power-up-to-same κs a x y e f p q = p ∙ sym q

@@ -12,8 +12,11 @@ use lib.Dec.{ltb}
 use borrow.Author.Tests.{ne-eqb, le-ltb}
 use Rattle.choice.specs.Choice.{pick}
 use Rattle.choice.proofs.Cases.{by-eq}
-use Rattle.split.specs.Split.{regular, dummy, parentOf, nextDown}
-use Rattle.split.proofs.Laws.{dummy-first, parent-le, parent-first, on-path-self, on-path-up, on-path-le, next-down-parent}
+use Rattle.split.specs.Split.{regular, dummy}
+use Rattle.tree.specs.Tree.{parentOf, nextDown}
+use Rattle.split.proofs.Laws.{dummy-first}
+use Rattle.tree.proofs.Laws.{parent-le, on-path-self, on-path-up, on-path-le, next-down-parent}
+use Rattle.promises.proofs.Order.{parent-first}
 use Rattle.words.specs.Words.{STANDING, SPLIT-KEY, TAKEN, put, bucket}
 use Rattle.scans.specs.Scans.{lowest}
 use Rattle.scans.proofs.Laws.{lowest-free}

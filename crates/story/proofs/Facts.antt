@@ -8,7 +8,8 @@ use Prim.Native.Nat.{ℕ, _+_, _*_, _%_, _≤_, _<_}
 use lib.Dec.{eqb}
 use lib.ListN.{length}
 use Rattle.choice.specs.Choice.{pick}
-use Rattle.split.specs.Split.{regular, dummy, onPath}
+use Rattle.split.specs.Split.{regular, dummy}
+use Rattle.tree.specs.Tree.{onPath}
 use Rattle.words.specs.Words.{TAKEN}
 use Rattle.sets.specs.Sets.{bit}
 use Rattle.names.specs.Names.{I1, SZ, TB, B2, B4, F1, F2, F3, F4, L2, B8, I8, I9, I10, D4A, D4B, D6, KEY, DUMMY, EXTRA, INSERT, DELETE, KEY-LIMIT}

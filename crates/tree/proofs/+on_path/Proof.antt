@@ -5,13 +5,13 @@ use mathlib.Core.Path.{sym, _∙_}
 use native.Mathlib.Omega.{arith}
 use borrow.Fn.Kinds.{In}
 use borrow.Fn.PlainCycle.{Measures, is, falls, and}
-use Rattle.split.proofs.Laws.{on-path-here, on-path-root, on-path-parent, parent-lt}
-use Rattle.split.proofs.on_path.Reads as on-path
-use Rattle.split.proofs.on_path.Kinds as on-path-kinds
-use Rattle.split.proofs.+on_path.Lts-on_path as on-path-lts
-use Rattle.split.proofs.parent.Reads as parent-reads
-use Rattle.split.proofs.+on_path.{statement}
-use Rattle.split.proofs.+on_path.Tie.{close}
+use Rattle.tree.proofs.Laws.{on-path-here, on-path-root, on-path-parent, parent-lt}
+use Rattle.tree.proofs.on_path.Reads as on-path
+use Rattle.tree.proofs.on_path.Kinds as on-path-kinds
+use Rattle.tree.proofs.+on_path.Lts-on_path as on-path-lts
+use Rattle.tree.proofs.parent.Reads as parent-reads
+use Rattle.tree.proofs.+on_path.{statement}
+use Rattle.tree.proofs.+on_path.Tie.{close}
 
 abbrev μ-on-path : Measures 0 on-path-kinds.ps ℕ
 μ-on-path κs a = a .0

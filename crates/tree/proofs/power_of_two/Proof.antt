@@ -2,9 +2,9 @@
 -- Assumes nothing.
 use mathlib.Core.Path.{sym}
 use native.Mathlib.Omega.{arith}
-use Rattle.split.proofs.Laws.{power-zero, power-divides}
-use Rattle.split.proofs.power_of_two.Statement.{statement}
-use Rattle.split.proofs.power_of_two.Tie as tie
+use Rattle.tree.proofs.Laws.{power-zero, power-divides}
+use Rattle.tree.proofs.power_of_two.Statement.{statement}
+use Rattle.tree.proofs.power_of_two.Tie as tie
 
 returns : tie.Need-returns
 returns c = sym (power-zero (c .before .args .x) (omega arith))

@@ -1,17 +1,17 @@
 -- The lowest bit stays and the half, a lesser number, loses its top set bit by the recursive call.
 -- Assumes nothing.
 use Prim.Native.Nat.{ℕ, _<_, _/_}
-use Rattle.split.specs.Split.{parentOf}
-use Rattle.split.proofs.Laws.{par-small, par-half, par-more, parent-le}
+use Rattle.tree.specs.Tree.{parentOf}
+use Rattle.tree.proofs.Laws.{par-small, par-half, par-more, parent-le}
 use mathlib.Core.Path.{sym}
 use native.Mathlib.Omega.{arith}
 use borrow.Fn.Kinds.{In}
 use borrow.Fn.PlainCycle.{Measures, is, falls, and}
-use Rattle.split.proofs.parent.Reads as parent
-use Rattle.split.proofs.parent.Kinds as parent-kinds
-use Rattle.split.proofs.+parent.Lts-parent as parent-lts
-use Rattle.split.proofs.+parent.{statement}
-use Rattle.split.proofs.+parent.Tie.{close}
+use Rattle.tree.proofs.parent.Reads as parent
+use Rattle.tree.proofs.parent.Kinds as parent-kinds
+use Rattle.tree.proofs.+parent.Lts-parent as parent-lts
+use Rattle.tree.proofs.+parent.{statement}
+use Rattle.tree.proofs.+parent.Tie.{close}
 
 abbrev μ-parent : Measures 0 parent-kinds.ps ℕ
 μ-parent κs a = a .0

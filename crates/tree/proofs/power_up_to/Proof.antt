@@ -1,9 +1,9 @@
 -- The test is computed as it is written.
 -- Assumes nothing.
-use Rattle.split.specs.Split.{powerUpTo}
+use Rattle.tree.specs.Tree.{powerUpTo}
 use borrow.Author.Needs.{needs}
-use Rattle.split.proofs.power_up_to.Statement.{statement}
-use Rattle.split.proofs.power_up_to.Tie as tie
+use Rattle.tree.proofs.power_up_to.Statement.{statement}
+use Rattle.tree.proofs.power_up_to.Tie as tie
 
 power-of-two-requires : tie.Need-power-of-two-requires
 power-of-two-requires c κs = tt

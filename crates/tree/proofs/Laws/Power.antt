@@ -9,7 +9,7 @@ use mathlib.Core.Logic.{_↔_}
 use lib.Dec.{leb, eqb}
 use lib.Pow.{pow-add, pow-mono}
 use borrow.Author.Tests.{leb-true, leb-false, eqb-true, eqb-false, eq-eqb}
-use Rattle.split.specs.Split.{powerBelow, powerOfTwo}
+use Rattle.tree.specs.Tree.{powerBelow, powerOfTwo}
 
 power-sound : (k x : ℕ) → powerBelow k x ≡ true → (i : ℕ) × (x ≡ 2 ^ i)
 unfolding powerBelow

@@ -9,8 +9,8 @@ use lib.Dec.{eqb}
 use borrow.Author.Tests.{eqb-true, eqb-false, eq-eqb, ne-eqb}
 use Rattle.choice.specs.Choice.{pick}
 use Rattle.choice.proofs.Auto.{pick-true, pick-false}
-use Rattle.split.specs.Split.{dummy, parentOf, climb, ancestors, among, before, justBefore, onPath, nextDown}
-use Rattle.split.proofs.Laws.Parent.{parent-zero, parent-lt, parent-first}
+use Rattle.tree.specs.Tree.{parentOf, climb, ancestors, among, before, justBefore, onPath, nextDown}
+use Rattle.tree.proofs.Laws.Parent.{parent-zero, parent-lt}
 
 climb-zero : (n : ℕ) → climb n 0 ≡ 0 ∷ []
 unfolding climb pick
@@ -126,18 +126,6 @@ on-path-up b a on =
 
 pub on-path-le : (b a : ℕ) → onPath b a ≡ true → a ≤ b
 on-path-le b a on = along-path (λ (x : ℕ). a ≤ x) a (omega arith) (λ x h _ ih. omega (arith, parent-lt x h)) b on
-
--- the dummies of a path come in its order, 0's first
-pub path-first : (b a : ℕ) → b < 4294967296 → onPath b a ≡ true → dummy a ≤ dummy b
-path-first b a l on =
-    along-path
-    (λ (x : ℕ). x < 4294967296 → dummy a ≤ dummy x)
-    a
-    (λ _. omega arith)
-    (λ x h _ ih l. omega (arith, parent-first x h l, ih (omega (arith, parent-lt x h))))
-    b
-    on
-    l
 
 -- the next bucket down is the one on the path whose parent is a
 pub next-down-parent : (b a : ℕ) → onPath b a ≡ true → (a ≡ b → ⊥) → (parentOf (nextDown b a) ≡ a) × (onPath b (nextDown b a) ≡ true) × (a < nextDown b a)

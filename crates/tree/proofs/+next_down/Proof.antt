@@ -2,16 +2,16 @@
 -- Assumes nothing.
 use mathlib.Core.Path.{sym, _∙_}
 use native.Mathlib.Omega.{arith}
-use Rattle.split.proofs.Laws.{next-down-root, next-down-here, next-down-up, parent-lt}
+use Rattle.tree.proofs.Laws.{next-down-root, next-down-here, next-down-up, parent-lt}
 use Prim.Native.Nat.{ℕ, _<_}
 use borrow.Fn.Kinds.{In}
 use borrow.Fn.PlainCycle.{Measures, is, falls, and}
-use Rattle.split.proofs.next_down.Reads as next-down
-use Rattle.split.proofs.next_down.Kinds as next-down-kinds
-use Rattle.split.proofs.+next_down.Lts-next_down as next-down-lts
-use Rattle.split.proofs.parent.Reads as parent-reads
-use Rattle.split.proofs.+next_down.{statement}
-use Rattle.split.proofs.+next_down.Tie.{close}
+use Rattle.tree.proofs.next_down.Reads as next-down
+use Rattle.tree.proofs.next_down.Kinds as next-down-kinds
+use Rattle.tree.proofs.+next_down.Lts-next_down as next-down-lts
+use Rattle.tree.proofs.parent.Reads as parent-reads
+use Rattle.tree.proofs.+next_down.{statement}
+use Rattle.tree.proofs.+next_down.Tie.{close}
 
 abbrev μ-next-down : Measures 0 next-down-kinds.ps ℕ
 μ-next-down κs a = a .0
