@@ -4,7 +4,8 @@ use Rattle.split.specs.Split.{rev, reverse, regular, dummy}
 use Rattle.tree.specs.Tree.{par, parentOf, climb, ancestors, among, before, justBefore, onPath, nextDown, powerBelow, powerOfTwo, powerUpTo}
 use Rattle.words.specs.Words.{word, put, bucket, store, linkWord, linkTo, isTo}
 use Rattle.sets.specs.Sets.{bit, isIn, dropped, raised}
-use Rattle.scans.specs.Scans.{leave, sweep, freeFrom, lowest, cleared, isKey, keysFrom}
+use Rattle.scans.specs.Scans.{leave, sweep, freeFrom, lowest, cleared}
+use Rattle.chain.specs.Chain.{isKey, keysFrom}
 use Rattle.header.specs.Header.{limitBroken, sizeBroken, busyBeyond, headerDamaged, isShort, doubles}
 use Rattle.record.specs.Worker.{begun, heldKey, heldDummy}
 use Rattle.faults.specs.Faults.{unknownName, bucketBeyond, nodeBeyond, bitDisagrees, idleNotZero, kindMisfit, errandMisfit, makingAstray, sizeMisfit, workerDamaged}

@@ -3,7 +3,7 @@ use Prim.Native.Nat.{ℕ, suc}
 use mathlib.Core.List.{List, [], _∷_}
 use mathlib.Core.Path.{_≡_}
 use lib.ListN.{length}
-use Rattle.scans.specs.Scans.{keysFrom}
+use Rattle.chain.specs.Chain.{keysFrom}
 use Rattle.names.specs.Names.{TB, F1, F4, L2, D4A, D4B, EXTRA, INSERT, FIND, DELETE}
 use Rattle.names.specs.declared.Answer.the-variants.{Yes, No}
 use Rattle.header.specs.Header.{nodesOf}

@@ -6,7 +6,7 @@ use lib.Dec.{ltb, leb, eqb}
 use lib.ListN.{length, replicate}
 use Rattle.choice.specs.Choice.{pick}
 use Rattle.names.specs.Names.{numberOf}
-use Rattle.scans.specs.Scans.{keysFrom}
+use Rattle.chain.specs.Chain.{keysFrom}
 use Rattle.header.specs.declared.Header.{Header}
 use Rattle.record.specs.Worker.{within}
 use Rattle.crew.specs.Crew.{Left, going}

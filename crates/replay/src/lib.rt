@@ -273,7 +273,7 @@ fn header_of(bank: Bank) -> Header
 fn put_last(out: &mut [u8], at: usize, header: Header, nodes: &[u32]) -> usize
     ensures { λ r. ⌜ Laid (now (out .entry)) at (lastLine header (now (nodes .entry))) (now (out .exit)) r ⌝ }
 {
-    let keys = scans::keys_from(nodes, MOST_NODES, 1);
+    let keys = chain::keys_from(nodes, MOST_NODES, 1);
     let end = Line::End {
         keys,
         count: header.count,

@@ -18,9 +18,9 @@ use Rattle.choice.proofs.Auto.{pick-true, pick-false}
 use Rattle.choice.proofs.Cases.{by-eq, both}
 use Rattle.sets.specs.Sets.{dropped}
 use Rattle.sets.proofs.Laws.{dropped-zero, dropped-le}
-use Rattle.words.specs.Words.{LINK, STANDING, LARGEST-SET, word, put, store}
+use Rattle.words.specs.Words.{STANDING, LARGEST-SET, word, put, store}
 use Rattle.words.proofs.Laws.{put-length, put-same, put-node, put-word, word-at, store-length}
-use Rattle.scans.specs.Scans.{leave, sweep, freeFrom, lowest, cleared, isKey, keysFrom}
+use Rattle.scans.specs.Scans.{leave, sweep, freeFrom, lowest, cleared}
 
 -- a standing that is a set loses the worker, and any other stays
 pub leave-set : (w s : ℕ) → s ≤ LARGEST-SET → leave w s ≡ dropped w s
@@ -273,23 +273,3 @@ pub cleared-beyond : (count : ℕ) (ws : List ℕ) (k : ℕ) → count ≤ k →
 unfolding cleared store
 cleared-beyond zero ws k h = refl
 cleared-beyond (suc c) ws k h = getD-set-other (cleared c ws) c k 0 0 (omega arith) ∙ cleared-beyond c ws k (omega arith)
-
--- the walk of the chain: nothing is left to follow, the chain has ended, or one node more is counted
-pub keys-none : (ns : List ℕ) (n : ℕ) → keysFrom ns 0 n ≡ 0
-unfolding keysFrom
-keys-none ns n = refl
-
-pub keys-end : (ns : List ℕ) (most n : ℕ) → n ≡ 0 → keysFrom ns most n ≡ 0
-unfolding keysFrom
-keys-end ns zero n e = refl
-keys-end ns (suc most) n e = pick-true (eqb n 0) 0 _ (eq-eqb n 0 e)
-
-pub keys-turn : (ns : List ℕ) (most n : ℕ) → 0 < most → (n ≡ 0 → ⊥) → keysFrom ns most n ≡ pick (isKey ns n) 1 0 + keysFrom ns (most - 1) (word ns n LINK / 2)
-unfolding keysFrom
-keys-turn ns zero n h ne = absurd (omega arith)
-keys-turn ns (suc most) n h ne =
-    let e : suc most - 1 ≡ most = omega arith in
-    pick-false (eqb n 0) 0 _ (ne-eqb n 0 ne) ∙ rw e
-
-pub key-le : (ns : List ℕ) (n : ℕ) → pick (isKey ns n) 1 0 ≤ 1
-key-le ns n = both (λ (x : ℕ). x ≤ 1) (isKey ns n) (omega arith) (omega arith)

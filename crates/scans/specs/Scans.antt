@@ -1,11 +1,10 @@
 -- The loops over the lent words, each in the loop's own order.
-use Prim.Native.Nat.{ℕ, zero, suc, _+_, _-_, _/_, _%_}
-use mathlib.Core.Bool.{Bool, _&&_}
+use Prim.Native.Nat.{ℕ, zero, suc, _-_}
 use mathlib.Core.List.{List}
 use lib.Dec.{leb, eqb}
 use Rattle.choice.specs.Choice.{pick}
 use Rattle.sets.specs.Sets.{dropped}
-use Rattle.words.specs.Words.{SPLIT-KEY, LINK, STANDING, LARGEST-SET, word, put, store}
+use Rattle.words.specs.Words.{STANDING, LARGEST-SET, word, put, store}
 
 -- a standing once worker w is waited for no more: a set of workers loses w, and a taken node stays taken
 unfoldable pub leave : ℕ → ℕ → ℕ
@@ -31,12 +30,3 @@ lowest ns from to = freeFrom ns (from - 1) (to - (from - 1))
 unfoldable pub cleared : ℕ → List ℕ → List ℕ
 cleared zero ws = ws
 cleared (suc k) ws = store (cleared k ws) k 0
-
--- the node is unmarked and has a regular split key, which is odd: its key is registered
-unfoldable pub isKey : List ℕ → ℕ → Bool
-isKey ns n = eqb (word ns n LINK % 2) 0 && eqb (word ns n SPLIT-KEY % 2) 1
-
--- how many keys are registered on the chain from node n, followed for at most so many nodes
-unfoldable pub keysFrom : List ℕ → ℕ → ℕ → ℕ
-keysFrom ns zero n = 0
-keysFrom ns (suc most) n = pick (eqb n 0) 0 (pick (isKey ns n) 1 0 + keysFrom ns most (word ns n LINK / 2))

@@ -1,8 +1,7 @@
 // The loops over the lent words: the lowest free node, the sweep of an ended operation, and the clearing of a new register.
 ghost use mathlib.Core.Path.{_≡_};
 ghost use Prim.Native.Nat.{_-_, _/_, min};
-ghost use Rattle.scans.specs.Scans.{sweep, lowest, cleared, isKey, keysFrom};
-ghost use Rattle.choice.specs.Choice.{pick};
+ghost use Rattle.scans.specs.Scans.{sweep, lowest, cleared};
 
 // The number before n, and 0 before 0.
 fn previous(n: u32) -> u32
@@ -61,34 +60,4 @@ pub fn clear(table: &mut [u32], count: u32)
         words::store(&mut table[..], i, 0);
         i += 1;
     }
-}
-
-// 1 where the node is unmarked with a regular split key, else 0.
-fn key_at(nodes: &[u32], n: u32) -> u32
-    ensures { λ r. ⌜ r ≡ pick (isKey (now (nodes .entry)) n) 1 0 ⌝ }
-{
-    let link = words::word(nodes, n, words::LINK);
-    let split = words::word(nodes, n, words::SPLIT_KEY);
-    if (link % 2 == 0) & (split % 2 == 1) {
-        return 1;
-    }
-    0
-}
-
-// How many keys are registered on the chain from node n, followed for at most so many nodes: a chain of foreign words may not end.
-pub fn keys_from(nodes: &[u32], most: u32, n: u32) -> u32
-    ensures { λ r. ⌜ r ≡ keysFrom (now (nodes .entry)) most n ⌝ }
-{
-    let mut count: u32 = 0;
-    let mut at = n;
-    let mut left = most;
-    while 0 < left {
-        if at == 0 {
-            return count;
-        }
-        count += key_at(nodes, at);
-        at = words::word(nodes, at, words::LINK) / 2;
-        left -= 1;
-    }
-    count
 }

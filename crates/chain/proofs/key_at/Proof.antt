@@ -2,9 +2,9 @@
 -- Assumes nothing.
 use mathlib.Core.Path.{_≡_, refl, sym, _∙_}
 use Rattle.choice.proofs.Auto.{pick-true, pick-false}
-use Rattle.scans.specs.Scans.{isKey}
-use Rattle.scans.proofs.key_at.Statement.{statement}
-use Rattle.scans.proofs.key_at.Tie as tie
+use Rattle.chain.specs.Chain.{isKey}
+use Rattle.chain.proofs.key_at.Statement.{statement}
+use Rattle.chain.proofs.key_at.Tie as tie
 
 word-requires : tie.Need-word-requires
 word-requires c κs = tt

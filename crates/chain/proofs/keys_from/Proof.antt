@@ -4,10 +4,10 @@ use mathlib.Core.Path.{_≡_, refl, sym, _∙_}
 use Prim.Native.Nat.{_+_, _≤_}
 use native.Mathlib.Nat.{zero-add}
 use native.Mathlib.Omega.{arith}
-use Rattle.scans.specs.Scans.{keysFrom}
-use Rattle.scans.proofs.Laws.{keys-none, keys-end, keys-turn, key-le}
-use Rattle.scans.proofs.keys_from.Statement.{statement}
-use Rattle.scans.proofs.keys_from.Tie as tie
+use Rattle.chain.specs.Chain.{keysFrom}
+use Rattle.chain.proofs.Laws.{keys-none, keys-end, keys-turn, key-le}
+use Rattle.chain.proofs.keys_from.Statement.{statement}
+use Rattle.chain.proofs.keys_from.Tie as tie
 
 abbrev Inv-loop : tie.InvT-loop
 Inv-loop nodes most n count₀ at₀ left₀ count at left = (count + left ≤ most) × (count + keysFrom nodes left at ≡ keysFrom nodes most n)
