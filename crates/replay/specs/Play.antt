@@ -14,7 +14,7 @@ use Rattle.record.specs.Worker.{idle, within}
 use Rattle.prepare.specs.declared.Limits.{Limits}
 use Rattle.crew.specs.declared.Called.{Called}
 use Rattle.crew.specs.Crew.{Left, left, going, prepareAt, startAt, stepsAt}
-use Rattle.script.specs.Script.{littleEndian}
+use Rattle.numbers.specs.Numbers.{littleEndian}
 use Rattle.lines.specs.Lines.{endedLine, refusedLine}
 use Rattle.replay.specs.declared.Operation.{Operation}
 

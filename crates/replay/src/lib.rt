@@ -57,12 +57,12 @@ fn buckets_of(exponent: u32) -> u32
 fn limits_of(body: &[u8]) -> Limits
     ensures { λ r. ⌜ r ≡ limitsOf (now (body .entry)) ⌝ }
 {
-    let exponent = script::byte_at(body, 0);
+    let exponent = numbers::byte_at(body, 0);
     Limits {
         m: buckets_of(exponent),
-        k: script::two_at(body, 1),
-        w: script::byte_at(body, 3),
-        l: script::byte_at(body, 4),
+        k: numbers::two_at(body, 1),
+        w: numbers::byte_at(body, 3),
+        l: numbers::byte_at(body, 4),
     }
 }
 
@@ -95,12 +95,12 @@ fn number_in(kind: u32, body: &[u8]) -> u32
     ensures { λ r. ⌜ r ≡ numberIn kind (now (body .entry)) ⌝ }
 {
     if kind <= 3 {
-        return script::four_at(body, 1);
+        return numbers::four_at(body, 1);
     }
     if kind == 4 {
         return 1;
     }
-    script::byte_at(body, 1)
+    numbers::byte_at(body, 1)
 }
 
 // No step: going on, and all as it was.
@@ -325,7 +325,7 @@ fn follow(
     while (0 < turns) & is_played(schedule, offset) {
         let kind = kind_at(schedule, offset);
         let body = script::body_of(schedule, offset);
-        let w = script::byte_at(body, 0);
+        let w = numbers::byte_at(body, 0);
         let number = number_in(kind, body);
         let operation = operation_of(bank, w);
         bank = call(bank, kind, w, number, nodes, buckets);

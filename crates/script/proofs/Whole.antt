@@ -1,17 +1,19 @@
 -- Of the four cases at an offset the last is reached past all three tests, so there the body stands whole in the input.
 -- Assumes nothing.
-use Prim.Native.Nat.{ℕ, _+_, _-_, _≤_, _<_}
-use mathlib.Core.Path.{_≡_, _∙_}
-use mathlib.Core.List.{List}
+use Prim.Native.Nat.{ℕ, _+_, _-_, _≤_, _<_, min}
+use mathlib.Core.Bool.{Bool, true, false}
+use mathlib.Core.Path.{_≡_, refl, ap, _∙_}
+use mathlib.Core.List.{List, []}
 use native.Mathlib.Omega.{arith}
-use lib.Dec.{leb}
+use lib.Dec.{leb, eqb, ltb}
 use lib.ListN.{length, take, drop, length-take, length-drop}
 use borrow.Author.Tests.{leb-false, lt-leb, ne-eqb, le-ltb}
+use Rattle.choice.specs.Choice.{pick}
 use Rattle.choice.proofs.Auto.{pick-false}
-use Rattle.choice.proofs.Cases.{by-bool, by-eq, by-lt}
+use Rattle.choice.proofs.Cases.{by-bool, both, by-eq, by-lt}
 use Rattle.script.specs.declared.Entry.{Entry}
-use Rattle.script.specs.declared.Entry.the-variants.{Whole}
-use Rattle.script.specs.Script.{bodyLength, kindAt, entryAt, bodyAt}
+use Rattle.script.specs.declared.Entry.the-variants.{End, Unknown, Cut, Whole}
+use Rattle.script.specs.Script.{bodyLength, kindAt, entryAt, endOf, bodyAt}
 
 -- a whole record: the kind is known, and the body is in the input
 pub record WholeAt (input : List ℕ) (at kind next : ℕ) : Type 0 where
@@ -53,3 +55,43 @@ body-whole input at kind next w =
 -- and it has that length
 pub body-long : (input : List ℕ) (at kind next : ℕ) → WholeAt input at kind next → length (bodyAt input at) ≡ bodyLength kind
 body-long input at kind next w = rw (body-whole input at kind next w) (simp (length-take, length-drop) (omega arith))
+
+-- where a body ends is within the input
+pub end-within : (input : List ℕ) (at : ℕ) → endOf (entryAt input at) ≤ length input
+unfolding entryAt
+end-within input at =
+    by-bool Within (leb (length input) at)
+    (λ _. omega arith)
+    (λ inside. both Within (eqb (bodyLength (kindAt input at)) 0)
+    (omega arith)
+    (by-lt Within (length input - (at + 1)) (bodyLength (kindAt input at))
+    (λ _. omega arith)
+    (λ fits. omega (arith, leb-false (length input) at inside))))
+  where
+    Within : Entry → Type 0
+    Within r = endOf r ≤ length input
+
+-- the stretch between two places of the input
+abbrev stretch : List ℕ → ℕ → ℕ → List ℕ
+stretch input start end = take (end - start) (drop start input)
+
+-- the body is the stretch from past the byte of kind to where it ends
+pub body-stretch : (input : List ℕ) (at : ℕ) → stretch input (min (at + 1) (endOf (entryAt input at))) (endOf (entryAt input at)) ≡ bodyAt input at
+unfolding entryAt bodyAt pick
+body-stretch input at = by (leb (length input) at) (eqb long 0) (ltb (length input - (at + 1)) long)
+  where
+    long : ℕ
+    long = bodyLength (kindAt input at)
+
+    none : stretch input (min (at + 1) 0) 0 ≡ []
+    none = let n : 0 - min (at + 1) 0 ≡ 0 = omega arith in rw n
+
+    whole : (end : ℕ) → end ≡ at + 1 + long → stretch input (min (at + 1) end) end ≡ take long (drop (at + 1) input)
+    whole end e = let s : min (at + 1) end ≡ at + 1 = omega arith in let n : end - (at + 1) ≡ long = omega arith in rw (s, n)
+
+    by : (a b c : Bool) → stretch input (min (at + 1) (endOf (pick a End (pick b Unknown (pick c Cut (Whole (kindAt input at) (at + 1 + long))))))) (endOf (pick a End (pick b Unknown (pick c Cut (Whole (kindAt input at) (at + 1 + long))))))
+        ≡ pick a [] (pick b [] (pick c [] (take long (drop (at + 1) input))))
+    by true b c = none
+    by false true c = none
+    by false false true = none
+    by false false false = whole _ refl

@@ -1,5 +1,5 @@
--- The bytes of a schedule: how long a kind's body is, what stands at an offset, the body there, and a number of it.
-use Prim.Native.Nat.{ℕ, zero, suc, _+_, _-_, _*_}
+-- The bytes of a schedule: how long a kind's body is, what stands at an offset, and the body there.
+use Prim.Native.Nat.{ℕ, _+_, _-_}
 use mathlib.Core.List.{List, []}
 use lib.Dec.{ltb, leb, eqb}
 use lib.ListN.{length, getD, take, drop}
@@ -26,11 +26,13 @@ caseAt input at end unknown cut whole =
 unfoldable pub entryAt : List ℕ → ℕ → Entry
 entryAt input at = caseAt input at End Unknown Cut (Whole (kindAt input at) (at + 1 + bodyLength (kindAt input at)))
 
+-- where the body of a whole record ends; 0 where there is no whole record
+abbrev pub endOf : Entry → ℕ
+endOf End = 0
+endOf Unknown = 0
+endOf Cut = 0
+endOf (Whole kind next) = next
+
 -- the body of the whole record at an offset, that stretch of the input; empty where there is no whole record
 unfoldable pub bodyAt : List ℕ → ℕ → List ℕ
 bodyAt input at = caseAt input at [] [] [] (take (bodyLength (kindAt input at)) (drop (at + 1) input))
-
--- the number of that many bytes from a place, the least significant first; a byte past the end is 0
-abbrev pub littleEndian : ℕ → List ℕ → ℕ → ℕ
-littleEndian zero body i = 0
-littleEndian (suc bytes) body i = getD body i 0 + 256 * littleEndian bytes body (i + 1)

@@ -1,7 +1,7 @@
 // A schedule's bytes: records of one byte of kind and a body whose length the kind fixes. The work is done on a slice and an offset; a `Reader` keeps the two together.
+ghost use Prim.Native.Nat.{_+_, min};
 ghost use mathlib.Core.Path.{_≡_};
-ghost use lib.ListN.{getD};
-ghost use Rattle.script.specs.Script.{bodyLength, entryAt, bodyAt, littleEndian};
+ghost use Rattle.script.specs.Script.{bodyLength, entryAt, endOf, bodyAt};
 
 // What stands at an offset.
 pub enum Entry {
@@ -56,70 +56,32 @@ pub fn record_at(input: &[u8], at: usize) -> Entry
     }
 }
 
-// The body of the record at an offset, as that stretch of the input itself; its length is the one that the kind byte fixes. Empty where there is no whole record.
+// Where the body of a whole record ends; 0 where there is no whole record.
+fn end_of(entry: Entry) -> usize
+    ensures { λ r. ⌜ r ≡ endOf entry ⌝ }
+{
+    match entry {
+        Entry::End => 0,
+        Entry::Unknown => 0,
+        Entry::Cut => 0,
+        Entry::Whole { kind, next } => next,
+    }
+}
+
+// The place after a byte, or an end where that comes first.
+fn past(at: usize, end: usize) -> usize
+    ensures { λ r. ⌜ r ≡ min (at + 1) end ⌝ }
+{
+    if at < end { at + 1 } else { end }
+}
+
+// The body of the record at an offset, as that stretch of the input itself: from past the byte of kind to the next record. Empty where there is no whole record.
 fn body_at<'a>(input: &'a [u8], at: usize) -> &'a [u8]
     ensures { λ r. ⌜ now r ≡ bodyAt (now (input .entry)) at ⌝ }
 {
-    if input.len() <= at {
-        return &input[0..0];
-    }
-    let long = body_length(input[at]);
-    if long == 0 {
-        return &input[0..0];
-    }
-    let start = at + 1;
-    if input.len() - start < long {
-        return &input[0..0];
-    }
-    let end = start + long;
+    let end = end_of(record_at(input, at));
+    let start = past(at, end);
     &input[start..end]
-}
-
-// Byte i of a body; 0 past its end.
-fn octet(body: &[u8], i: usize) -> u8
-    ensures { λ r. ⌜ r ≡ getD (now (body .entry)) i 0 ⌝ }
-{
-    if i < body.len() { body[i] } else { 0 }
-}
-
-// Byte i of a body as a number; 0 past its end.
-pub fn byte_at(body: &[u8], i: usize) -> u32
-    ensures { λ r. ⌜ r ≡ getD (now (body .entry)) i 0 ⌝ }
-{
-    let byte = octet(body, i);
-    byte as u32
-}
-
-// The number of two bytes from i on; a byte past the end is 0.
-fn pair(body: &[u8], i: usize) -> u16
-    ensures { λ r. ⌜ r ≡ littleEndian 2 (now (body .entry)) i ⌝ }
-{
-    if body.len() <= i {
-        return 0;
-    }
-    (octet(body, i) as u16) + 256 * (octet(body, i + 1) as u16)
-}
-
-// The number of two bytes from i on.
-pub fn two_at(body: &[u8], i: usize) -> u32
-    ensures { λ r. ⌜ r ≡ littleEndian 2 (now (body .entry)) i ⌝ }
-{
-    let number = pair(body, i);
-    number as u32
-}
-
-// The number of four bytes from i on.
-pub fn four_at(body: &[u8], i: usize) -> u32
-    ensures { λ r. ⌜ r ≡ littleEndian 4 (now (body .entry)) i ⌝ }
-{
-    if body.len() <= i {
-        return 0;
-    }
-    let next = i + 1;
-    if body.len() <= next {
-        return octet(body, i) as u32;
-    }
-    (pair(body, i) as u32) + 65536 * (pair(body, next + 1) as u32)
 }
 
 // The input and a place in it, kept together.
@@ -129,11 +91,11 @@ pub struct Reader<'a> {
 }
 
 impl<'a> Reader<'a> {
-    // A reader at the start of an input.
-    pub fn new(input: &'a [u8]) -> Reader<'a>
-        ensures { λ r. ⌜ (r .input ≡ input .entry) × (r .at ≡ 0) ⌝ }
+    // A reader at a place of an input.
+    pub fn at(input: &'a [u8], at: usize) -> Reader<'a>
+        ensures { λ r. ⌜ (r .input ≡ input .entry) × (r .at ≡ at) ⌝ }
     {
-        Reader { input, at: 0 }
+        Reader { input, at }
     }
 
     // The body of the record at its place, as that stretch of the input itself.
@@ -142,21 +104,11 @@ impl<'a> Reader<'a> {
     {
         body_at(self.input, self.at)
     }
-
-    // The same input, at another place.
-    pub fn moved(self, at: usize) -> Reader<'a>
-        ensures { λ r. ⌜ (r .input ≡ self .entry .input) × (r .at ≡ at) ⌝ }
-    {
-        Reader {
-            input: self.input,
-            at,
-        }
-    }
 }
 
 // The body at an offset, through a reader, as that stretch of the input itself: whoever calls it needs no reader of its own.
 pub fn body_of<'a>(input: &'a [u8], offset: usize) -> &'a [u8]
     ensures { λ r. ⌜ now r ≡ bodyAt (now (input .entry)) offset ⌝ }
 {
-    Reader::new(input).moved(offset).body()
+    Reader::at(input, offset).body()
 }

@@ -1,4 +1,4 @@
--- `script::body_of` meets its contract: a walk of its MIR, by hand. A `Reader` is made, moved to the offset and asked, and the contracts of the three calls join to this one.
+-- `script::body_of` meets its contract: a walk of its MIR, by hand. A `Reader` is made at the offset and asked, and the contracts of the two calls join to this one.
 -- In a local of a body MIR erases the lifetime of the struct's type, so each value is shown to have the type at `erased`: what the struct owns does not say the lifetime's name.
 -- Assumes nothing.
 use mathlib.Core.Path.{_≡_, refl, ap, _∙_}
@@ -17,7 +17,7 @@ use ghost.Atoms.{Atoms, sem}
 use contract.Lifetimes.{Lfts}
 use contract.Monad.{Fun, fact}
 use contract.Running.{givenOf, tables, tablesOf}
-use types.Kit.{Given, ‵, raw, _⊛_, ⋆, some, later, _$_, _∵_, !, qed, by, move, use1, use2, split, join, pick, fsplit, fjoin, suffices, frame, await, done, keep}
+use types.Kit.{Given, ‵, raw, _⊛_, ⋆, some, later, _$_, _∵_, !, qed, by, move, use1, use2, split, join, pick, fsplit, fjoin, suffices, frame, await, done}
 use types.Run.{look, init, forget, stop, from, load, and-then, no-more, land, returns, enter, alloc1, alloc0, params1, pass1, pass0, free1, free0}
 use sound.WpLaws.{FmC, fmOf, WpFn-mono}
 use denote.RattleType.{RattleType, owns}
@@ -41,18 +41,14 @@ use Rattle.script.specs.Script.{bodyAt}
 use Rattle.script.specs.declared.Reader.{Reader}
 use Rattle.script.proofs.Reader as T
 use Rattle.script.proofs.Reader.Laws as T′
-use Rattle.script.proofs.Reader.new as new
-use Rattle.script.proofs.Reader.new.Symbol as new-def
-use Rattle.script.proofs.Reader.new.Symbol.{name as #script·new}
-use Rattle.script.proofs.Reader.new.Met as new-thm
+use Rattle.script.proofs.Reader.at as reader-at
+use Rattle.script.proofs.Reader.at.Symbol as at-def
+use Rattle.script.proofs.Reader.at.Symbol.{name as #script·at}
+use Rattle.script.proofs.Reader.at.Met as at-thm
 use Rattle.script.proofs.Reader.body as body
 use Rattle.script.proofs.Reader.body.Symbol as body-def
 use Rattle.script.proofs.Reader.body.Symbol.{name as #script·body}
 use Rattle.script.proofs.Reader.body.Met as body-thm
-use Rattle.script.proofs.Reader.moved as moved
-use Rattle.script.proofs.Reader.moved.Symbol as moved-def
-use Rattle.script.proofs.Reader.moved.Symbol.{name as #script·moved}
-use Rattle.script.proofs.Reader.moved.Met as moved-thm
 use Rattle.script.proofs.body_of.Key.{name as #script·body-of}
 use Rattle.script.proofs.body_of as body-of
 use Rattle.script.proofs.body_of.Statement as stated
@@ -67,11 +63,8 @@ stayed = (stay-none-slice (0 ∷ []) tt (plain (λ _. u8)) yes, (stay-none (λ _
 
 module _ {M : Type 1} (𝓤 : URA M) (H : Heap 𝓤) (A : Atoms 𝓤) (mem : Memory → SProp 𝓤) (run : Routine → Fun 𝓤) where
   -- the contracts that the proof cites
-  abbrev New : Contract 𝓤
-  New = tripleOf 𝓤 H A new.signature (new.spec 𝓤 H A mem run)
-
-  abbrev Moved : Contract 𝓤
-  Moved = tripleOf 𝓤 H A moved.signature (moved.spec 𝓤 H A mem run)
+  abbrev At : Contract 𝓤
+  At = tripleOf 𝓤 H A reader-at.signature (reader-at.spec 𝓤 H A mem run)
 
   abbrev Body : Contract 𝓤
   Body = tripleOf 𝓤 H A body.signature (body.spec 𝓤 H A mem run)
@@ -97,29 +90,18 @@ module _ {M : Type 1} (𝓤 : URA M) (H : Heap 𝓤) (A : Atoms 𝓤) (W : Given
   abbrev Own : Fml
   Own = ShrSlice (named 0) κ u8 .own s (v ∷ [])
 
-  -- the call of `new`: what it is passed, what it asks, and what is known of its result
-  abbrev to-new : New 𝓤 H A mem run .Ghost
-  to-new = (((κ, tt), (q, tt), tt, (s, tt), (v ∷ [], tt)), tt)
+  -- the call of `at`: what it is passed, what it asks, and what is known of its result
+  abbrev to-at : At 𝓤 H A mem run .Ghost
+  to-at = (((κ, tt), (q, tt), tt, (s, (n, tt)), at), tt)
 
-  goes-new : ent 𝓤 (onEntry 𝓤 H A body-of.signature (κ, tt) (q, tt) (s, (n, tt)) at) (sep 𝓤 (New 𝓤 H A mem run .pre to-new) (sem 𝓤 H A Own))
-  goes-new =
+  goes-at : ent 𝓤 (onEntry 𝓤 H A body-of.signature (κ, tt) (q, tt) (s, (n, tt)) at) (sep 𝓤 (At 𝓤 H A mem run .pre to-at) (sem 𝓤 H A Own))
+  goes-at =
       qed W ((‵ (flft κ q) ⊛ ‵ ftrue) ∷ ‵ (owns (ShrSlice (named 0) κ u8 ∷ usize ∷ []) (s, (n, tt)) at) ∷ []) ∵
       move ! (1 ∷ []) $ fsplit ! $ use1 W (‵ Own ⊛ ‵ Own) (shr-slice-copy 𝓤 H A W (named 0) κ u8 .twice s (v ∷ [])) $ split ! $
-      nothing ! $ move ! (1 ∷ 0 ∷ []) $ fjoin ! $ move ! (3 ∷ 0 ∷ []) $ use2 W (raw (New 𝓤 H A mem run .pre to-new)) (qed W ((‵ (flft κ q) ⊛ ‵ ftrue) ∷ ‵ (owns (ShrSlice (named 0) κ u8 ∷ []) (s, tt) (v ∷ [], tt)) ∷ []) ∵ join ! $ frame ! $ done !) $ frame ! $ keep ! (0 ∷ []) $ done !
+      move ! (0 ∷ 2 ∷ []) $ fjoin ! $ move ! (2 ∷ 0 ∷ []) $ use2 W (raw (At 𝓤 H A mem run .pre to-at)) (qed W ((‵ (flft κ q) ⊛ ‵ ftrue) ∷ ‵ (owns (ShrSlice (named 0) κ u8 ∷ usize ∷ []) (s, (n, tt)) at) ∷ []) ∵ join ! $ frame ! $ done !) $ frame ! $ done !
 
-  new-said : (r : Reader) → ent 𝓤 (ensured 𝓤 H A new.ended (new.clauses 𝓤 H A mem run) (κ, tt) (s, tt) tt r) (fact 𝓤 ((r .input ≡ s) × (r .at ≡ 0)))
-  new-said r = exE 𝓤 _ (λ ws. snd∗ 𝓤 (sem 𝓤 H A (lasts new.ended (κ, tt) (s, tt) ws)) (fact 𝓤 ((r .input ≡ s) × (r .at ≡ 0))))
-
-  -- the call of `moved`, at the struct r with the machine value u
-  abbrev to-moved : Reader → Val → Moved 𝓤 H A mem run .Ghost
-  to-moved r u = (((κ, tt), (q, tt), tt, (r, (n, tt)), (u ∷ [], (vint w64 n ∷ [], tt))), tt)
-
-  goes-moved : (r : Reader) (u : Val) → ent 𝓤 (⋆ 𝓤 H A (‵ (B (κ, tt) .own r (u ∷ [])) ∷ (‵ (flft κ q) ⊛ ‵ ftrue) ∷ [])) (Moved 𝓤 H A mem run .pre (to-moved r u))
-  goes-moved r u =
-      qed W (‵ (B (κ, tt) .own r (u ∷ [])) ∷ (‵ (flft κ q) ⊛ ‵ ftrue) ∷ []) ∵ nothing ! $ owned ! usize (Is usize) (uint-makes 𝓤 H A W w64) n _ (refl, ok) $ fjoin ! $ move ! (1 ∷ 0 ∷ []) $ fjoin ! $ move ! (1 ∷ 0 ∷ []) $ join ! $ frame ! $ done !
-
-  moved-said : (r t : Reader) → ent 𝓤 (ensured 𝓤 H A moved.ended (moved.clauses 𝓤 H A mem run) (κ, tt) (r, (n, tt)) tt t) (fact 𝓤 ((t .input ≡ r .input) × (t .at ≡ n)))
-  moved-said r t = exE 𝓤 _ (λ ws. snd∗ 𝓤 (sem 𝓤 H A (lasts moved.ended (κ, tt) (r, (n, tt)) ws)) (fact 𝓤 ((t .input ≡ r .input) × (t .at ≡ n))))
+  at-said : (r : Reader) → ent 𝓤 (ensured 𝓤 H A reader-at.ended (reader-at.clauses 𝓤 H A mem run) (κ, tt) (s, (n, tt)) tt r) (fact 𝓤 ((r .input ≡ s) × (r .at ≡ n)))
+  at-said r = exE 𝓤 _ (λ ws. snd∗ 𝓤 (sem 𝓤 H A (lasts reader-at.ended (κ, tt) (s, (n, tt)) ws)) (fact 𝓤 ((r .input ≡ s) × (r .at ≡ n))))
 
   -- the call of `body`, at the struct r with the machine value u
   abbrev to-body : Reader → Val → Body 𝓤 H A mem run .Ghost
@@ -137,45 +119,39 @@ module _ {M : Type 1} (𝓤 : URA M) (H : Heap 𝓤) (A : Atoms 𝓤) (W : Given
       suffices ! _ (ends-at 𝓤 H A body-of.ended stayed (body-of.clauses 𝓤 H A mem run) W (((κ, tt), (q, tt), tt, (s, (n, tt)), at), tt) u t (tt, (tt, tt)) (tt, (tt, tt))) $ says ! e $
       move ! (1 ∷ []) $ frame ! $ nothing ! $ owned ! usize (Is usize) (uint-makes 𝓤 H A W w64) n _ (refl, ok) $ fjoin ! $ move ! (2 ∷ 0 ∷ []) $ fjoin ! $ frame ! $ done !
 
-  module _ (C : Calls 𝓤 H) (Λ : Loops 𝓤 H) (fm : FmC 𝓤 H (W .laws) C) (known-new : Triple 𝓤 (C #script·new) (New 𝓤 H A mem run)) (known-moved : Triple 𝓤 (C #script·moved) (Moved 𝓤 H A mem run)) (known-body : Triple 𝓤 (C #script·body) (Body 𝓤 H A mem run)) where
+  module _ (C : Calls 𝓤 H) (Λ : Loops 𝓤 H) (fm : FmC 𝓤 H (W .laws) C) (known-at : Triple 𝓤 (C #script·at) (At 𝓤 H A mem run)) (known-body : Triple 𝓤 (C #script·body) (Body 𝓤 H A mem run)) where
     walk : Is (ShrSlice (named 0) κ u8) s (v ∷ []) → ent 𝓤 (onEntry 𝓤 H A body-of.signature (κ, tt) (q, tt) (s, (n, tt)) at) (WpFn 𝓤 H C Λ code.function (v ∷ vint w64 n ∷ []) Post)
     walk p =
         qed W (raw (onEntry 𝓤 H A body-of.signature (κ, tt) (q, tt) (s, (n, tt)) at) ∷ []) ∵ enter ! C Λ code.function (v ∷ vint w64 n ∷ []) _ $
-        alloc1 ! (λ l₀. alloc1 ! (λ l₁. alloc1 ! (λ l₂. alloc1 ! (λ l₃. alloc1 ! (λ l₄. alloc0 ! $ params1 ! $ pass1 ! (init ! 6 refl (shr-slice-lawful 𝓤 H A W (named 0) κ u8 .typed s (v ∷ []) p .0)) $ pass1 ! (init ! 4 refl (tt, record { fits = ok })) $ pass0 ! $
-        move ! (10 ∷ []) $ use1 W (raw (New 𝓤 H A mem run .pre to-new) ⊛ ‵ Own) goes-new $ split ! $
-        calls-at ! fm (New 𝓤 H A mem run) known-new to-new (and-then ! (load ! (from ! (stop !)) (look ! 8 refl)) (no-more !)) (λ u.
-        use1 W (later (some (λ (r : Reader). ((‵ (flft κ q) ⊛ ‵ ftrue) ⊛ ‵ (B (κ, tt) .own r (u ∷ []))) ⊛ raw (ensured 𝓤 H A new.ended (new.clauses 𝓤 H A mem run) (κ, tt) (s, tt) tt r)))) (id⊢ 𝓤 _) $ await ! tt $ pick ! (λ r.
-        split ! $ move ! (1 ∷ []) $ use1 W (raw (fact 𝓤 ((r .input ≡ s) × (r .at ≡ 0)))) (new-said r) $ heard ! ((r .input ≡ s) × (r .at ≡ 0)) (λ e. split ! $ move ! (1 ∷ []) $
-        -- [what the struct owns; the token; what s owns; room for _4; …; room for _3; …; _2; …; _1; …; room for _0; …]
+        alloc1 ! (λ l₀. alloc1 ! (λ l₁. alloc1 ! (λ l₂. alloc1 ! (λ l₃. alloc0 ! $ params1 ! $ pass1 ! (init ! 4 refl (shr-slice-lawful 𝓤 H A W (named 0) κ u8 .typed s (v ∷ []) p .0)) $ pass1 ! (init ! 2 refl (tt, record { fits = ok })) $ pass0 ! $
+        move ! (8 ∷ []) $ use1 W (raw (At 𝓤 H A mem run .pre to-at) ⊛ ‵ Own) goes-at $ split ! $
+        calls-at ! fm (At 𝓤 H A mem run) known-at to-at (and-then ! (load ! (from ! (stop !)) (look ! 6 refl)) (and-then ! (load ! (from ! (stop !)) (look ! 4 refl)) (no-more !))) (λ u.
+        use1 W (later (some (λ (r : Reader). ((‵ (flft κ q) ⊛ ‵ ftrue) ⊛ ‵ (B (κ, tt) .own r (u ∷ []))) ⊛ raw (ensured 𝓤 H A reader-at.ended (reader-at.clauses 𝓤 H A mem run) (κ, tt) (s, (n, tt)) tt r)))) (id⊢ 𝓤 _) $ await ! tt $ pick ! (λ r.
+        split ! $ move ! (1 ∷ []) $ use1 W (raw (fact 𝓤 ((r .input ≡ s) × (r .at ≡ n)))) (at-said r) $ heard ! ((r .input ≡ s) × (r .at ≡ n)) (λ e. split ! $ move ! (1 ∷ []) $
+        -- [what the struct owns; the token; what s owns; room for _3; …; _2; …; _1; …; room for _0; …]
         peeks ! (B (κ, tt)) (Is (B (κ, tt))) (shows 𝓤 H A (B (κ, tt))) r (u ∷ []) (λ is.
         land ! (from ! (stop !)) (init ! 3 refl (LL.lawful (T.the-type αᵉ) (T′.the-laws αᵉ) 𝓤 H A W .typed r _ is .0)) $
-        use2 W (raw (Moved 𝓤 H A mem run .pre (to-moved r u))) (goes-moved r u) $
-        calls-at ! fm (Moved 𝓤 H A mem run) known-moved (to-moved r u) (and-then ! (load ! (from ! (stop !)) (look ! 2 refl)) (and-then ! (load ! (from ! (stop !)) (look ! 6 refl)) (no-more !))) (λ u₁.
-        use1 W (later (some (λ (r₁ : Reader). ((‵ (flft κ q) ⊛ ‵ ftrue) ⊛ ‵ (B (κ, tt) .own r₁ (u₁ ∷ []))) ⊛ raw (ensured 𝓤 H A moved.ended (moved.clauses 𝓤 H A mem run) (κ, tt) (r, (n, tt)) tt r₁)))) (id⊢ 𝓤 _) $ await ! tt $ pick ! (λ r₁.
-        split ! $ move ! (1 ∷ []) $ use1 W (raw (fact 𝓤 ((r₁ .input ≡ r .input) × (r₁ .at ≡ n)))) (moved-said r r₁) $ heard ! ((r₁ .input ≡ r .input) × (r₁ .at ≡ n)) (λ e₁. split ! $ move ! (1 ∷ []) $
-        peeks ! (B (κ, tt)) (Is (B (κ, tt))) (shows 𝓤 H A (B (κ, tt))) r₁ (u₁ ∷ []) (λ is₁.
-        land ! (from ! (stop !)) (init ! 5 refl (LL.lawful (T.the-type αᵉ) (T′.the-laws αᵉ) 𝓤 H A W .typed r₁ _ is₁ .0)) $
-        use2 W (raw (Body 𝓤 H A mem run .pre (to-body r₁ u₁))) (goes-body r₁ u₁) $
-        calls-at ! fm (Body 𝓤 H A mem run) known-body (to-body r₁ u₁) (and-then ! (load ! (from ! (stop !)) (look ! 4 refl)) (no-more !)) (λ u′.
-        use1 W (later (some (λ (t : RefT (List ℕ)). ((‵ (flft κ q) ⊛ ‵ ftrue) ⊛ ‵ ((ShrSlice (named 0) κ u8) .own t (u′ ∷ []))) ⊛ raw (ensured 𝓤 H A body.ended (body.clauses 𝓤 H A mem run) (κ, tt) (r₁, tt) tt t)))) (id⊢ 𝓤 _) $ await ! tt $ pick ! (λ t.
-        split ! $ move ! (1 ∷ []) $ use1 W (raw (fact 𝓤 (now t ≡ bodyAt (now (r₁ .input)) (r₁ .at)))) (body-said r₁ t) $ heard ! (now t ≡ bodyAt (now (r₁ .input)) (r₁ .at)) (λ e′. split ! $ move ! (1 ∷ []) $
-        -- [the result; the token; what s owns; _4; …; _3; …; _2; …; _1; …; room for _0; …]
+        use2 W (raw (Body 𝓤 H A mem run .pre (to-body r u))) (goes-body r u) $
+        calls-at ! fm (Body 𝓤 H A mem run) known-body (to-body r u) (and-then ! (load ! (from ! (stop !)) (look ! 2 refl)) (no-more !)) (λ u′.
+        use1 W (later (some (λ (t : RefT (List ℕ)). ((‵ (flft κ q) ⊛ ‵ ftrue) ⊛ ‵ ((ShrSlice (named 0) κ u8) .own t (u′ ∷ []))) ⊛ raw (ensured 𝓤 H A body.ended (body.clauses 𝓤 H A mem run) (κ, tt) (r, tt) tt t)))) (id⊢ 𝓤 _) $ await ! tt $ pick ! (λ t.
+        split ! $ move ! (1 ∷ []) $ use1 W (raw (fact 𝓤 (now t ≡ bodyAt (now (r .input)) (r .at)))) (body-said r t) $ heard ! (now t ≡ bodyAt (now (r .input)) (r .at)) (λ e′. split ! $ move ! (1 ∷ []) $
+        -- [the result; the token; what s owns; _3; …; _2; …; _1; …; room for _0; …]
         peeks ! (ShrSlice (named 0) κ u8) (Is (ShrSlice (named 0) κ u8)) (shows 𝓤 H A (ShrSlice (named 0) κ u8)) t (u′ ∷ []) (λ is′.
-        land ! (from ! (stop !)) (init ! 11 refl (shr-slice-lawful 𝓤 H A W (named 0) κ u8 .typed t _ is′ .0)) $
-        returns ! (look ! 11 refl) $ forget ! 3 refl $ forget ! 5 refl $ forget ! 7 refl $ forget ! 9 refl $ forget ! 11 refl $ move ! (11 ∷ 12 ∷ []) $ free1 ! $ move ! (9 ∷ 10 ∷ []) $ free1 ! $ move ! (7 ∷ 8 ∷ []) $ free1 ! $ move ! (5 ∷ 6 ∷ []) $ free1 ! $ move ! (3 ∷ 4 ∷ []) $ free1 ! $ free0 ! $
-        by ! (exits t u′ (e′ ∙ (ap (λ (x : RefT (List ℕ)). bodyAt (now x) (r₁ .at)) (e₁ .0 ∙ e .0) ∙ ap (bodyAt (now s)) (e₁ .1)))))))))))))))))))))
+        land ! (from ! (stop !)) (init ! 9 refl (shr-slice-lawful 𝓤 H A W (named 0) κ u8 .typed t _ is′ .0)) $
+        returns ! (look ! 9 refl) $ forget ! 3 refl $ forget ! 5 refl $ forget ! 7 refl $ forget ! 9 refl $ move ! (9 ∷ 10 ∷ []) $ free1 ! $ move ! (7 ∷ 8 ∷ []) $ free1 ! $ move ! (5 ∷ 6 ∷ []) $ free1 ! $ move ! (3 ∷ 4 ∷ []) $ free1 ! $ free0 ! $
+        by ! (exits t u′ (e′ ∙ (ap (λ (x : RefT (List ℕ)). bodyAt (now x) (r .at)) (e .0) ∙ ap (bodyAt (now s)) (e .1))))))))))))))))
 
 module _ {M : Type 1} (𝓤 : URA M) (H : Heap 𝓤) (A : Atoms 𝓤) (W : Given 𝓤 H A) (mem : Memory → SProp 𝓤) (run : Routine → Fun 𝓤) where
-  body-of-walks : (C : Calls 𝓤 H) (Λ : Loops 𝓤 H) → FmC 𝓤 H (W .laws) C → Triple 𝓤 (C #script·new) (New 𝓤 H A mem run) → Triple 𝓤 (C #script·moved) (Moved 𝓤 H A mem run) → Triple 𝓤 (C #script·body) (Body 𝓤 H A mem run)
+  body-of-walks : (C : Calls 𝓤 H) (Λ : Loops 𝓤 H) → FmC 𝓤 H (W .laws) C → Triple 𝓤 (C #script·at) (At 𝓤 H A mem run) → Triple 𝓤 (C #script·body) (Body 𝓤 H A mem run)
       → Walks 𝓤 H A body-of.ended stayed (WpFn 𝓤 H C Λ code.function) (body-of.clauses 𝓤 H A mem run)
-  body-of-walks C Λ fm known-new known-moved known-body = walked 𝓤 H A body-of.ended stayed (body-of.clauses 𝓤 H A mem run) (WpFn 𝓤 H C Λ code.function) (λ κs. (slice-vals, (uint-vals w64, tt))) (λ κs. (shr-slice-tells (named 0) (κs .0) u8, (uint-tells w64, tt)))
-      (λ κs qs bounds a g are. via 𝓤 _ (fst∗ 𝓤 _ (emp 𝓤)) (walk 𝓤 H A W mem run (κs .0) (qs .0) (a .0) (a .1 .0) (are .1 .0 .1) C Λ fm known-new known-moved known-body (are .0)))
+  body-of-walks C Λ fm known-at known-body = walked 𝓤 H A body-of.ended stayed (body-of.clauses 𝓤 H A mem run) (WpFn 𝓤 H C Λ code.function) (λ κs. (slice-vals, (uint-vals w64, tt))) (λ κs. (shr-slice-tells (named 0) (κs .0) u8, (uint-tells w64, tt)))
+      (λ κs qs bounds a g are. via 𝓤 _ (fst∗ 𝓤 _ (emp 𝓤)) (walk 𝓤 H A W mem run (κs .0) (qs .0) (a .0) (a .1 .0) (are .1 .0 .1) C Λ fm known-at known-body (are .0)))
 
 body-of-meets : {M : Type 1} (𝓤 : URA M) (H : Heap 𝓤) (A : Atoms 𝓤) (W : Given 𝓤 H A) (mem : Memory → SProp 𝓤) (run : Routine → Fun 𝓤) (𝓣 : Tables 𝓤 H)
-    → Triple 𝓤 (𝓣 .C #script·new) (New 𝓤 H A mem run) → Triple 𝓤 (𝓣 .C #script·moved) (Moved 𝓤 H A mem run) → Triple 𝓤 (𝓣 .C #script·body) (Body 𝓤 H A mem run)
+    → Triple 𝓤 (𝓣 .C #script·at) (At 𝓤 H A mem run) → Triple 𝓤 (𝓣 .C #script·body) (Body 𝓤 H A mem run)
     → Meets 𝓤 H A body-of.signature (WpFn 𝓤 H (𝓣 .C) (𝓣 .Λ) code.function) (body-of.spec 𝓤 H A mem run)
-body-of-meets 𝓤 H A W mem run 𝓣 known-new known-moved known-body = walk-meets 𝓤 H A body-of.ended stayed W (goes-none-slice 𝓤 H A W 1 (0 ∷ []) tt (plain (λ _. u8)) yes, (goes-none 𝓤 H A W 1 (λ _. usize) yes (λ κs x f. refl), tt)) (body-of.clauses 𝓤 H A mem run) (WpFn 𝓤 H (𝓣 .C) (𝓣 .Λ) code.function) (WpFn-mono 𝓤 H (W .laws) 𝓣 code.function)
-    (body-of-walks 𝓤 H A W mem run (𝓣 .C) (𝓣 .Λ) (fmOf 𝓤 H (W .laws) 𝓣) known-new known-moved known-body)
+body-of-meets 𝓤 H A W mem run 𝓣 known-at known-body = walk-meets 𝓤 H A body-of.ended stayed W (goes-none-slice 𝓤 H A W 1 (0 ∷ []) tt (plain (λ _. u8)) yes, (goes-none 𝓤 H A W 1 (λ _. usize) yes (λ κs x f. refl), tt)) (body-of.clauses 𝓤 H A mem run) (WpFn 𝓤 H (𝓣 .C) (𝓣 .Λ) code.function) (WpFn-mono 𝓤 H (W .laws) 𝓣 code.function)
+    (body-of-walks 𝓤 H A W mem run (𝓣 .C) (𝓣 .Λ) (fmOf 𝓤 H (W .laws) 𝓣) known-at known-body)
 
 pub body-of-spec : {M : Type 1} → stated.statement M
 unfolding code.routine tablesOf
@@ -183,6 +159,5 @@ body-of-spec 𝓤 H 𝓜 𝓖 𝓡 =
     entered 𝓤 H (tripleOf 𝓤 H (𝓖 .A) body-of.signature (body-of.spec 𝓤 H (𝓖 .A) (𝓜 .mem) (𝓡 .run)))
     (tables 𝓤 H 𝓜 𝓡 code.env .C) (tables 𝓤 H 𝓜 𝓡 code.env .Λ) #script·body-of code.function (code.unfolded 𝓤 H 𝓜 𝓡)
     (body-of-meets 𝓤 H (𝓖 .A) (givenOf 𝓤 H 𝓜 𝓖) (𝓜 .mem) (𝓡 .run) (tablesOf 𝓤 H 𝓜 (tables 𝓤 H 𝓜 𝓡 code.env))
-    (cited 𝓤 H (New 𝓤 H (𝓖 .A) (𝓜 .mem) (𝓡 .run)) 𝓜 𝓡 code.env #script·new new-def.routine code.calls-script·Reader·new (new-thm.met 𝓤 H 𝓜 𝓖 𝓡))
-    (cited 𝓤 H (Moved 𝓤 H (𝓖 .A) (𝓜 .mem) (𝓡 .run)) 𝓜 𝓡 code.env #script·moved moved-def.routine code.calls-script·Reader·moved (moved-thm.met 𝓤 H 𝓜 𝓖 𝓡))
+    (cited 𝓤 H (At 𝓤 H (𝓖 .A) (𝓜 .mem) (𝓡 .run)) 𝓜 𝓡 code.env #script·at at-def.routine code.calls-script·Reader·at (at-thm.met 𝓤 H 𝓜 𝓖 𝓡))
     (cited 𝓤 H (Body 𝓤 H (𝓖 .A) (𝓜 .mem) (𝓡 .run)) 𝓜 𝓡 code.env #script·body body-def.routine code.calls-script·Reader·body (body-thm.met 𝓤 H 𝓜 𝓖 𝓡)))

@@ -1,10 +1,10 @@
--- `script::octet` meets its contract: past the end a byte reads 0.
+-- `numbers::octet` meets its contract: past the end a byte reads 0.
 -- Assumes nothing.
 use mathlib.Core.Path.{sym}
 use lib.ListN.{List·getD-eq-default}
 use borrow.Author.Needs.{needs}
-use Rattle.script.proofs.octet.Statement.{statement}
-use Rattle.script.proofs.octet.Tie as tie
+use Rattle.numbers.proofs.octet.Statement.{statement}
+use Rattle.numbers.proofs.octet.Tie as tie
 
 shared-slice-read-result : tie.Need-shared-slice-read-result
 shared-slice-read-result c = search needs

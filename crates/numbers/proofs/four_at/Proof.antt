@@ -1,12 +1,12 @@
--- `script::four_at` meets its contract: four bytes are two and two more, and past the end every byte is 0.
+-- `numbers::four_at` meets its contract: four bytes are two and two more, and past the end every byte is 0.
 -- Assumes nothing.
 use Prim.Native.Nat.{_+_}
 use mathlib.Core.Path.{sym}
 use native.Mathlib.Omega.{arith}
 use borrow.Author.Needs.{needs}
-use Rattle.script.proofs.Laws.{number-past}
-use Rattle.script.proofs.four_at.Statement.{statement}
-use Rattle.script.proofs.four_at.Tie as tie
+use Rattle.numbers.proofs.Laws.{number-past}
+use Rattle.numbers.proofs.four_at.Statement.{statement}
+use Rattle.numbers.proofs.four_at.Tie as tie
 
 returns : tie.Need-returns
 returns c = let s = c .before .before .args in sym (number-past 4 (s .body .now) (s .i) (c .if1 .taken))

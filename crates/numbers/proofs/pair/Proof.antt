@@ -1,10 +1,10 @@
--- `script::pair` meets its contract: past the end every byte is 0, and so is their number.
+-- `numbers::pair` meets its contract: past the end every byte is 0, and so is their number.
 -- Assumes nothing.
 use mathlib.Core.Path.{sym}
 use borrow.Author.Needs.{needs}
-use Rattle.script.proofs.Laws.{number-past}
-use Rattle.script.proofs.pair.Statement.{statement}
-use Rattle.script.proofs.pair.Tie as tie
+use Rattle.numbers.proofs.Laws.{number-past}
+use Rattle.numbers.proofs.pair.Statement.{statement}
+use Rattle.numbers.proofs.pair.Tie as tie
 
 returns : tie.Need-returns
 returns c = let s = c .before .before .args in sym (number-past 2 (s .body .now) (s .i) (c .if1 .taken))
