@@ -13,7 +13,7 @@ use Rattle.choice.specs.Choice.{pick}
 use Rattle.choice.proofs.Auto.{pick-true, pick-false}
 use Rattle.choice.proofs.Cases.{by-lt}
 use Rattle.io.specs.Digits.{glyph, digits, Fewest}
-use Rattle.lines.specs.Text.{digitsIn, decimal, signed}
+use Rattle.lines.specs.Decimal.{digitsIn, decimal, signed}
 
 -- two choices that differ in the second way alone
 same-else : {A : Type 0} (t : Bool) (a : A) {b b′ : A} → (t ≡ false → b ≡ b′) → pick t a b ≡ pick t a b′

@@ -5,7 +5,7 @@ use mathlib.Core.Bool.{true, false, _&&_}
 use mathlib.Core.Path.{_≡_, sym, _∙_}
 use mathlib.Core.List.{List, [], _∷_, _++_, append-assoc}
 use Rattle.choice.proofs.Auto.{pick-true, pick-false}
-use Rattle.lines.specs.Text.{decimal, signed}
+use Rattle.lines.specs.Decimal.{decimal, signed}
 use Rattle.lines.specs.Lines.{line, REGISTER, REFUSED, END, kindWord, answerWord, kindNamed, answerNamed, registerLine, endedLine, refusedLine, endLine}
 
 -- a word, and the byte that ends it

@@ -5,7 +5,7 @@ use mathlib.Core.List.{List}
 use native.Mathlib.Omega.{arith}
 use lib.ListN.{length, length-append}
 use Rattle.choice.proofs.Cases.{both, by-lt}
-use Rattle.lines.specs.Text.{decimal, signed}
+use Rattle.lines.specs.Decimal.{decimal, signed}
 use Rattle.lines.specs.Lines.{kindWord, answerWord, registerLine, endedLine, refusedLine, endLine}
 use Rattle.lines.proofs.Digits.{decimal-length}
 

@@ -1,6 +1,5 @@
 pub mod Digits
 pub mod Joined
-pub mod Laying
 pub mod Lengths
 pub mod Same
 pub mod Worked

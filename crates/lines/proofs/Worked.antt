@@ -3,7 +3,7 @@
 use mathlib.Core.Path.{_≡_, refl}
 use mathlib.Core.List.{[], _∷_}
 use Rattle.choice.specs.Choice.{pick}
-use Rattle.lines.specs.Text.{digitsIn, decimal, signed}
+use Rattle.lines.specs.Decimal.{digitsIn, decimal, signed}
 use Rattle.lines.specs.Lines.{kindWord, answerWord, registerLine, endedLine, refusedLine, endLine}
 
 -- `register 4 4 1 1`

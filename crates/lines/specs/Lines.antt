@@ -7,7 +7,7 @@ use Rattle.choice.specs.Choice.{pick}
 use Rattle.names.specs.Names.{INSERT, FIND, DELETE, numberOf}
 use Rattle.lines.specs.declared.Line.{Line}
 use Rattle.lines.specs.declared.Line.the-variants.{Register, Ended, Refused, End}
-use Rattle.lines.specs.Text.{decimal, signed}
+use Rattle.lines.specs.Decimal.{decimal, signed}
 
 -- words with one space between them, and a newline
 abbrev pub line : List (List ℕ) → List ℕ

@@ -1,13 +1,14 @@
-// The lines that a schedule prints, laid in a lent buffer. Every function is total: what would stand past the buffer's end is not stored, and the place returned stops at that end.
-ghost use Prim.Native.Nat.{min};
+// The lines that a schedule prints, laid in a lent buffer.
 ghost use mathlib.Core.Path.{_≡_};
 ghost use mathlib.Core.List.{[], _∷_, _++_};
 ghost use Rattle.names.specs.Names.{numberOf};
-ghost use Rattle.lines.specs.Text.{Laid, decimal, signed};
+ghost use Rattle.text.specs.Text.{Laid};
+ghost use Rattle.lines.specs.Decimal.{decimal, signed};
 ghost use Rattle.lines.specs.Lines.{kindNamed, answerNamed, registerLine, endedLine, refusedLine, endLine, lineText};
 ghost use Rattle.lines.specs.Spans.{Fits, kindSpan, answerSpan, named};
 use names::Answer;
 use names::kind;
+use text::put_text;
 
 // A line, by what it tells; numbers as the scope paper has them.
 pub enum Line {
@@ -41,38 +42,6 @@ struct Span {
     to: usize,
 }
 
-// A place, or the end of a buffer of that length where that comes first.
-fn within(at: usize, length: usize) -> usize
-    ensures { λ r. ⌜ r ≡ min at length ⌝ }
-{
-    if at < length { at } else { length }
-}
-
-// One byte.
-fn put_byte(out: &mut [u8], at: usize, byte: u8) -> usize
-    ensures { λ r. ⌜ Laid (now (out .entry)) at (byte ∷ []) (now (out .exit)) r ⌝ }
-{
-    if at < out.len() {
-        out[at] = byte;
-        at + 1
-    } else {
-        out.len()
-    }
-}
-
-// A text, byte by byte.
-pub fn put_text(out: &mut [u8], at: usize, text: &[u8]) -> usize
-    ensures { λ r. ⌜ Laid (now (out .entry)) at (now (text .entry)) (now (out .exit)) r ⌝ }
-{
-    let mut place = within(at, out.len());
-    let mut i = 0;
-    while i < text.len() {
-        place = put_byte(out, place, text[i]);
-        i += 1;
-    }
-    place
-}
-
 // A number in decimal, with no zero in front.
 fn put_number(out: &mut [u8], at: usize, n: u64) -> usize
     ensures { λ r. ⌜ Laid (now (out .entry)) at (decimal n) (now (out .exit)) r ⌝ }
@@ -89,7 +58,7 @@ fn put_signed(out: &mut [u8], at: usize, n: u32) -> usize
     if n < 2147483648 {
         return put_number(out, at, n as u64);
     }
-    let place = put_byte(out, at, 45);
+    let place = put_text(out, at, b"-");
     put_number(out, place, 4294967296 - (n as u64))
 }
 
@@ -98,7 +67,8 @@ fn put_field(out: &mut [u8], at: usize, n: u64, close: u8) -> usize
     ensures { λ r. ⌜ Laid (now (out .entry)) at (decimal n ++ (close ∷ [])) (now (out .exit)) r ⌝ }
 {
     let place = put_number(out, at, n);
-    put_byte(out, place, close)
+    let closing = [close];
+    put_text(out, place, &closing)
 }
 
 // The line of a register that was prepared.
@@ -192,7 +162,7 @@ fn put_ended(
         let fourth = put_name(out, third, answer_span(number));
         put_field(out, fourth, steps as u64, 10)
     } else {
-        within(at, out.len())
+        put_text(out, at, b"")
     }
 }
 
@@ -212,7 +182,7 @@ fn put_end(out: &mut [u8], at: usize, keys: u32, count: u32, size: u32) -> usize
     let word = put_text(out, at, b"end ");
     let first = put_field(out, word, keys as u64, 32);
     let second = put_signed(out, first, count);
-    let third = put_byte(out, second, 32);
+    let third = put_text(out, second, b" ");
     put_field(out, third, size as u64, 10)
 }
 

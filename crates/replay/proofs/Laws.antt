@@ -10,8 +10,8 @@ use borrow.Author.Tests.{lt-ltb}
 use Rattle.choice.proofs.Auto.{pick-true, pick-false}
 use Rattle.crew.specs.Crew.{Left}
 use Rattle.script.specs.Script.{entryAt, bodyAt}
-use Rattle.lines.specs.Text.{Laid}
-use Rattle.lines.proofs.Laying.{laid-on, laid-as}
+use Rattle.text.specs.Text.{Laid}
+use Rattle.text.proofs.Laying.{laid-on, laid-as}
 use Rattle.replay.specs.declared.Operation.{Operation}
 use Rattle.replay.specs.Play.{workerOf, numberIn, called, operationOf, callLine}
 use Rattle.replay.specs.Replay.{kindOf, nextOf, isPlayed, closed, followed}

@@ -7,8 +7,8 @@ use native.Mathlib.Omega.{arith}
 use lib.ListN.{length, take}
 use lib.Seq.{length-take-le}
 use Rattle.io.specs.Counts.{Counts}
-use Rattle.lines.specs.Text.{laid, Laid}
-use Rattle.lines.proofs.Laying.{laid-length, laid-take}
+use Rattle.text.specs.Text.{laid, Laid}
+use Rattle.text.proofs.Laying.{laid-length, laid-take}
 
 module _ {out : List ℕ} {at : ℕ} {text exit : List ℕ} {place : ℕ} where
   -- the place is never past the buffer

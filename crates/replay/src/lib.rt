@@ -6,7 +6,7 @@ ghost use Rattle.names.specs.declared.Answer.the-variants.{Going};
 ghost use Rattle.record.specs.Worker.{idle};
 ghost use Rattle.crew.specs.Crew.{left};
 ghost use Rattle.script.specs.Script.{entryAt, bodyAt};
-ghost use Rattle.lines.specs.Text.{Laid};
+ghost use Rattle.text.specs.Text.{Laid};
 ghost use Rattle.replay.specs.Play.{bucketsOf, limitsOf, blank, prepared, numberIn, called, operationOf, callLine};
 ghost use Rattle.replay.specs.Replay.{kindOf, nextOf, faultOf, standOf, stopLine, isPlayed, lastLine, closed, followed, firstLine, begun, printed};
 use crew::Bank;
@@ -256,7 +256,7 @@ fn put_stop(out: &mut [u8], at: usize, schedule: &[u8], offset: usize) -> usize
     ensures { λ r. ⌜ Laid (now (out .entry)) at (stopLine (now (schedule .entry)) offset) (now (out .exit)) r ⌝ }
 {
     if schedule.len() <= offset {
-        return lines::put_text(out, at, b"");
+        return text::put_text(out, at, b"");
     }
     let number = fault_at(schedule, offset);
     lines::put_line(out, at, Line::Refused { number, offset })

@@ -7,8 +7,8 @@ fn read_case(name: &[u8], ending: &[u8], into: &mut [u8]) -> usize
     ensures { λ r. ⌜ Counts r (now (into .exit)) ⌝ }
 {
     let mut path = io::buffer();
-    let dot = lines::put_text(&mut path, 0, name);
-    let end = lines::put_text(&mut path, dot, ending);
+    let dot = text::put_text(&mut path, 0, name);
+    let end = text::put_text(&mut path, dot, ending);
     let file = os::open_read(&path[..end]);
     if file < 0 {
         os::fail(name);

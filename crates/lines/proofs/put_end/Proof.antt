@@ -1,7 +1,7 @@
 -- `lines::put_end` meets its contract: each part is laid right after the one before.
 -- Assumes nothing.
 use borrow.Author.Needs.{needs}
-use Rattle.lines.proofs.Laying.{laid-on, laid-as}
+use Rattle.text.proofs.Laying.{laid-on, laid-as}
 use Rattle.lines.proofs.Joined.{end-joined}
 use Rattle.lines.proofs.put_end.Statement.{statement}
 use Rattle.lines.proofs.put_end.Tie as tie
@@ -18,8 +18,11 @@ put-field-requires c κs = search needs
 put-signed-requires : tie.Need-put-signed-requires
 put-signed-requires c κs = search needs
 
-put-byte-requires : tie.Need-put-byte-requires
-put-byte-requires c κs = search needs
+slice-aggregate-put-text-2 : tie.Need-slice-aggregate-put-text-2
+slice-aggregate-put-text-2 c = search needs
+
+put-text-requires-2 : tie.Need-put-text-requires-2
+put-text-requires-2 c κs = search needs
 
 put-field-requires-2 : tie.Need-put-field-requires-2
 put-field-requires-2 c κs = search needs
@@ -31,11 +34,11 @@ returns : tie.Need-returns
 returns c =
     let e = c .before .before in
     let d = e .before .before .before .before in
-    let c = d .before .before .before .before in
+    let c = d .before .before .before .before .before in
     let b = c .before .before .before .before in
     let a = b .before .before .before .before in
     let s = a .before .before .before .before .args in
-    laid-as (end-joined (s .keys) (s .count) (s .size)) (laid-on (laid-on (laid-on (laid-on (a .put-text .ensures) (b .put-field .ensures)) (c .put-signed .ensures)) (d .put-byte .ensures)) (e .put-field2 .ensures))
+    laid-as (end-joined (s .keys) (s .count) (s .size)) (laid-on (laid-on (laid-on (laid-on (a .put-text .ensures) (b .put-field .ensures)) (c .put-signed .ensures)) (d .put-text2 .ensures)) (e .put-field2 .ensures))
 
 pub put-end-spec : {M : Type 1} → statement M
 put-end-spec =
@@ -45,7 +48,8 @@ put-end-spec =
     put-text-requires
     put-field-requires
     put-signed-requires
-    put-byte-requires
+    slice-aggregate-put-text-2
+    put-text-requires-2
     put-field-requires-2
     same-length
     returns)

@@ -5,7 +5,7 @@ use mathlib.Core.Bool.{Bool, _&&_}
 use mathlib.Core.Path.{_≡_, sym, ap, _∙_}
 use borrow.Author.Needs.{needs}
 use Rattle.lines.specs.Lines.{endedLine}
-use Rattle.lines.proofs.Laying.{laid-on, laid-as, laid-none}
+use Rattle.text.proofs.Laying.{laid-on, laid-as}
 use Rattle.lines.proofs.Joined.{ended-joined, ended-none}
 use Rattle.lines.specs.Spans.{named}
 use Rattle.lines.proofs.Spelled.{kind-fits, answer-fits, kind-spelled, answer-spelled}
@@ -46,8 +46,11 @@ put-name-requires-2 c κs = rw (c .answer-span .ensures) (answer-fits _)
 put-field-requires-3 : tie.Need-put-field-requires-3
 put-field-requires-3 c κs = search needs
 
-within-requires : tie.Need-within-requires
-within-requires c κs = search needs
+slice-aggregate-put-text : tie.Need-slice-aggregate-put-text
+slice-aggregate-put-text c = search needs
+
+put-text-requires : tie.Need-put-text-requires
+put-text-requires c κs = search needs
 
 same-length : tie.Need-same-length
 same-length c = search needs
@@ -59,13 +62,16 @@ returns c =
     laid-as (ended-joined (s .worker) (s .kind) (s .key) (n .result) (s .steps) (sym (both-of (c .before .before .before .before .before .before .before .before .before .before .before .before .before .before .before .before .before .before .before .before .before .before .before .before .kind-named .ensures) (c .before .before .before .before .before .before .before .before .before .before .before .before .before .before .before .before .before .before .before .before .before .before .before .answer-named .ensures)) ∙ c .before .before .before .before .before .before .before .before .before .before .before .before .before .before .before .before .before .before .before .before .before .before .if1 .taken) ∙ ap (λ (m : ℕ). endedLine (s .worker) (s .kind) (s .key) m (s .steps)) (n .ensures))
     (laid-on (laid-on (laid-on (laid-on (c .before .before .before .before .before .before .before .before .before .before .before .before .before .before .before .before .before .before .before .before .put-field .ensures) (laid-as (ap named (c .before .before .before .before .before .before .before .before .before .before .before .before .before .before .before .before .kind-span .ensures) ∙ kind-spelled (s .kind)) (c .before .before .before .before .before .before .before .before .before .before .before .before .before .before .before .put-name .ensures))) (c .before .before .before .before .before .before .before .before .before .before .before .put-field2 .ensures)) (laid-as (ap named (c .before .before .before .before .before .before .before .answer-span .ensures) ∙ answer-spelled (n .result)) (c .before .before .before .before .before .before .put-name2 .ensures))) (c .before .before .put-field3 .ensures))
 
+same-length-2 : tie.Need-same-length-2
+same-length-2 c = search needs
+
 returns-2 : tie.Need-returns-2
 returns-2 c =
-    let i = c .before in
+    let i = c .before .before .before .before .before in
     let n = i .before .before .before .number in
     let s = i .before .before .before .before .before .args in
     laid-as (ended-none (s .worker) (s .kind) (s .key) (n .result) (s .steps) (sym (both-of (i .before .before .kind-named .ensures) (i .before .answer-named .ensures)) ∙ i .if1 .left) ∙ ap (λ (m : ℕ). endedLine (s .worker) (s .kind) (s .key) m (s .steps)) (n .ensures))
-    (laid-none (s .out .now) (s .at) (c .within .result) (c .within .ensures))
+    (c .before .before .put-text .ensures)
 
 pub put-ended-spec : {M : Type 1} → statement M
 put-ended-spec =
@@ -81,7 +87,9 @@ put-ended-spec =
     answer-span-requires
     put-name-requires-2
     put-field-requires-3
-    within-requires
+    slice-aggregate-put-text
+    put-text-requires
     same-length
     returns
+    same-length-2
     returns-2)

@@ -1,7 +1,7 @@
 -- Each arm is its line's own clause.
 -- Assumes nothing.
 use borrow.Author.Needs.{needs}
-use Rattle.lines.proofs.Laying.{laid-as}
+use Rattle.text.proofs.Laying.{laid-as}
 use Rattle.lines.proofs.put_line.Statement.{statement}
 use Rattle.lines.proofs.put_line.Tie as tie
 

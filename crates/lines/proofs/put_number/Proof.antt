@@ -2,7 +2,7 @@
 -- Assumes nothing.
 use mathlib.Core.Path.{_∙_}
 use borrow.Author.Needs.{needs}
-use Rattle.lines.proofs.Laying.{laid-as}
+use Rattle.text.proofs.Laying.{laid-as}
 use Rattle.lines.proofs.Digits.{fewest-decimal}
 use Rattle.lines.proofs.put_number.Statement.{statement}
 use Rattle.lines.proofs.put_number.Tie as tie

@@ -1,7 +1,7 @@
 -- `lines::put_refused` meets its contract: each part is laid right after the one before.
 -- Assumes nothing.
 use borrow.Author.Needs.{needs}
-use Rattle.lines.proofs.Laying.{laid-on, laid-as}
+use Rattle.text.proofs.Laying.{laid-on, laid-as}
 use Rattle.lines.proofs.Joined.{refused-joined}
 use Rattle.lines.proofs.put_refused.Statement.{statement}
 use Rattle.lines.proofs.put_refused.Tie as tie

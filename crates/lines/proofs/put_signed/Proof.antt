@@ -2,7 +2,7 @@
 -- Assumes nothing.
 use borrow.Author.Needs.{needs}
 use mathlib.Core.Path.{sym}
-use Rattle.lines.proofs.Laying.{laid-on, laid-as}
+use Rattle.text.proofs.Laying.{laid-on, laid-as}
 use Rattle.lines.proofs.Digits.{signed-positive, signed-negative}
 use Rattle.lines.proofs.put_signed.Statement.{statement}
 use Rattle.lines.proofs.put_signed.Tie as tie
@@ -18,8 +18,11 @@ returns c =
     let s = c .before .before .before .before .before .before .args in
     laid-as (sym (signed-positive (s .n) (c .before .before .before .before .if1 .taken))) (c .before .before .put-number .ensures)
 
-put-byte-requires : tie.Need-put-byte-requires
-put-byte-requires c κs = search needs
+slice-aggregate-put-text : tie.Need-slice-aggregate-put-text
+slice-aggregate-put-text c = search needs
+
+put-text-requires : tie.Need-put-text-requires
+put-text-requires c κs = search needs
 
 sub-put-number : tie.Need-sub-put-number
 sub-put-number c = search needs
@@ -32,9 +35,9 @@ same-length-2 c = search needs
 
 returns-2 : tie.Need-returns-2
 returns-2 c =
-    let b = c .before .before .before .before .before .before in
-    let s = b .before .before .before .before .args in
-    laid-as (sym (signed-negative (s .n) (b .before .before .if1 .left))) (laid-on (b .put-byte .ensures) (c .before .before .put-number2 .ensures))
+    let p = c .before .before .before .before .before .before in
+    let f = p .before .before .before in
+    laid-as (sym (signed-negative (f .before .before .args .n) (f .if1 .left))) (laid-on (p .put-text .ensures) (c .before .before .put-number2 .ensures))
 
 pub put-signed-spec : {M : Type 1} → statement M
 put-signed-spec =
@@ -43,7 +46,8 @@ put-signed-spec =
     put-number-requires
     same-length
     returns
-    put-byte-requires
+    slice-aggregate-put-text
+    put-text-requires
     sub-put-number
     put-number-requires-2
     same-length-2

@@ -3,7 +3,7 @@
 use borrow.Author.Needs.{needs}
 use mathlib.Core.Path.{_≡_, ap}
 use Rattle.replay.specs.Replay.{firstLine, begun}
-use Rattle.lines.proofs.Laying.{laid-on, laid-as}
+use Rattle.text.proofs.Laying.{laid-on, laid-as}
 use Rattle.choice.proofs.Auto.{pick-true, pick-false, eq-of-left, ne-of-left}
 use Rattle.replay.proofs.begin.Statement.{statement}
 use Rattle.replay.proofs.begin.Tie as tie

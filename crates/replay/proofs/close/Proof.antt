@@ -1,7 +1,7 @@
 -- The two lines are laid one right after the other.
 -- Assumes nothing.
 use borrow.Author.Needs.{needs}
-use Rattle.lines.proofs.Laying.{laid-on}
+use Rattle.text.proofs.Laying.{laid-on}
 use Rattle.replay.proofs.close.Statement.{statement}
 use Rattle.replay.proofs.close.Tie as tie
 

@@ -6,7 +6,7 @@ use native.Mathlib.Omega.{arith}
 use lib.ListN.{length}
 use Rattle.replay.proofs.Laws.{Leads, turns-left, followed-stop, leads-on}
 use Rattle.replay.specs.Replay.{followed}
-use Rattle.lines.proofs.Laying.{laid-as}
+use Rattle.text.proofs.Laying.{laid-as}
 use Rattle.crew.specs.Crew.{left}
 use Rattle.replay.proofs.follow.Statement.{statement}
 use Rattle.replay.proofs.follow.Tie as tie

@@ -2,7 +2,7 @@
 -- Assumes nothing.
 use borrow.Author.Needs.{needs}
 use Rattle.replay.proofs.Played.{refused-line, other-line}
-use Rattle.lines.proofs.Laying.{laid-as}
+use Rattle.text.proofs.Laying.{laid-as}
 use Rattle.replay.proofs.put_called.Statement.{statement}
 use Rattle.replay.proofs.put_called.Tie as tie
 

@@ -1,4 +1,4 @@
--- `lines::put_text` meets its contract. The loop's invariant: the bytes passed are laid, and the place is right after them.
+-- `text::put_text` meets its contract. The loop's invariant: the bytes passed are laid, and the place is right after them.
 -- The measure is what is left of the text. Assumes nothing.
 use Prim.Native.Nat.{_≤_, _-_}
 use mathlib.Core.Path.{ap, _∙_}
@@ -6,10 +6,10 @@ use native.Mathlib.Omega.{arith}
 use borrow.Author.Needs.{needs}
 use lib.ListN.{length, take}
 use lib.Seq.{take-all}
-use Rattle.lines.specs.Text.{Laid}
-use Rattle.lines.proofs.Laying.{laid-none, laid-step, laid-as, laid-length}
-use Rattle.lines.proofs.put_text.Statement.{statement}
-use Rattle.lines.proofs.put_text.Tie as tie
+use Rattle.text.specs.Text.{Laid}
+use Rattle.text.proofs.Laying.{laid-none, laid-step, laid-as, laid-length}
+use Rattle.text.proofs.put_text.Statement.{statement}
+use Rattle.text.proofs.put_text.Tie as tie
 
 abbrev Inv-loop : tie.InvT-loop
 Inv-loop out₀ at text place₀ i₀ out place i = (i ≤ length text) × Laid out₀ at (take i text) out place

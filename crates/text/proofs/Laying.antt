@@ -8,7 +8,7 @@ use native.Mathlib.Omega.{arith}
 use lib.ListN.{length, getD, set, take, drop, length-append}
 use lib.Seq.{set-out, length-sets, sets-eq, take-at, drop-at, take-suc, length-take-le}
 use Rattle.choice.proofs.Cases.{by-lt}
-use Rattle.lines.specs.Text.{laid, after, Laid}
+use Rattle.text.specs.Text.{laid, after, Laid}
 
 -- the buffer keeps its length
 pub laid-length : (out : List ℕ) (at : ℕ) (text : List ℕ) → length (laid out at text) ≡ length out

@@ -1,12 +1,12 @@
--- `lines::put_byte` meets its contract: one store lays one byte, and past the end there is none.
+-- `text::put_byte` meets its contract: one store lays one byte, and past the end there is none.
 -- Assumes nothing.
 use mathlib.Core.Path.{refl, sym}
 use native.Mathlib.Omega.{arith}
 use borrow.Author.Needs.{needs}
 use lib.Seq.{set-out}
-use Rattle.lines.specs.Text.{laid}
-use Rattle.lines.proofs.put_byte.Statement.{statement}
-use Rattle.lines.proofs.put_byte.Tie as tie
+use Rattle.text.specs.Text.{laid}
+use Rattle.text.proofs.put_byte.Statement.{statement}
+use Rattle.text.proofs.put_byte.Tie as tie
 
 slice-write-out : tie.Need-slice-write-out
 slice-write-out c = search needs
