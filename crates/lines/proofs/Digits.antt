@@ -13,7 +13,7 @@ use Rattle.choice.specs.Choice.{pick}
 use Rattle.choice.proofs.Auto.{pick-true, pick-false}
 use Rattle.choice.proofs.Cases.{by-lt}
 use Rattle.io.specs.Digits.{glyph, digits, Fewest}
-use Rattle.lines.specs.Decimal.{digitsIn, decimal, signed}
+use Rattle.lines.specs.Decimal.{digitsIn, decimal}
 
 -- two choices that differ in the second way alone
 same-else : {A : Type 0} (t : Bool) (a : A) {b b′ : A} → (t ≡ false → b ≡ b′) → pick t a b ≡ pick t a b′
@@ -87,13 +87,3 @@ digits-length (suc most) (suc (suc k)) n p h =
 pub decimal-length : (k n : ℕ) → 0 < k → n < 10 ^ k → length (decimal n) ≤ k
 unfolding decimal
 decimal-length k n p h = digits-length (suc n) k n p h
-
--- a word whose top bit is not set
-pub signed-positive : (n : ℕ) → n < 2147483648 → signed n ≡ decimal n
-unfolding signed
-signed-positive n h = pick-true (ltb n 2147483648) (decimal n) (45 ∷ decimal (4294967296 - n)) (lt-ltb n 2147483648 h)
-
--- a word whose top bit is set
-pub signed-negative : (n : ℕ) → 2147483648 ≤ n → signed n ≡ 45 ∷ decimal (4294967296 - n)
-unfolding signed
-signed-negative n h = pick-false (ltb n 2147483648) (decimal n) (45 ∷ decimal (4294967296 - n)) (le-ltb n 2147483648 h)

@@ -3,4 +3,3 @@ pub mod Joined
 pub mod Lengths
 pub mod Same
 pub mod Worked
-mod Spelled

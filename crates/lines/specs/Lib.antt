@@ -1,3 +1,5 @@
 pub mod Decimal
 pub mod Lines
-pub mod Spans
+pub mod Pieces
+pub mod Word
+pub mod Words

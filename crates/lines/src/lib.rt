@@ -1,14 +1,25 @@
-// The lines that a schedule prints, laid in a lent buffer.
+// The lines that a schedule prints, laid in a lent buffer: each is a few words with numbers between them.
+ghost use Prim.Native.Nat.{min};
 ghost use mathlib.Core.Path.{_≡_};
-ghost use mathlib.Core.List.{[], _∷_, _++_};
-ghost use Rattle.names.specs.Names.{numberOf};
+ghost use mathlib.Core.List.{_++_};
+ghost use lib.ListN.{getD};
 ghost use Rattle.text.specs.Text.{Laid};
-ghost use Rattle.lines.specs.Decimal.{decimal, signed};
-ghost use Rattle.lines.specs.Lines.{kindNamed, answerNamed, registerLine, endedLine, refusedLine, endLine, lineText};
-ghost use Rattle.lines.specs.Spans.{Fits, kindSpan, answerSpan, named};
+ghost use Rattle.lines.specs.Decimal.{decimal};
+ghost use Rattle.lines.specs.Lines.{lineText};
+ghost use Rattle.lines.specs.Words.{STARTS, wordAt, wordOfKind, wordOfAnswer};
+ghost use Rattle.lines.specs.Pieces.{registerPieces, endedPieces, refusedPieces, endPieces, piecesOf};
+use crate::word::END;
+use crate::word::MINUS;
+use crate::word::NEWLINE;
+use crate::word::NOTHING;
+use crate::word::REFUSED;
+use crate::word::REGISTER;
+use crate::word::SPACE;
 use names::Answer;
 use names::kind;
 use text::put_text;
+
+mod word;
 
 // A line, by what it tells; numbers as the scope paper has them.
 pub enum Line {
@@ -36,10 +47,159 @@ pub enum Line {
     },
 }
 
-// Where a word stands in the text of all the words.
-struct Span {
-    from: usize,
-    to: usize,
+// What a line is made of: the first so many of these numbers, each with its word before it, and the word after the last.
+struct Pieces {
+    words: [u8; 5],
+    numbers: [u64; 4],
+    count: usize,
+}
+
+// The word of a kind; nothing where it has none.
+fn kind_word(kind: u32) -> u8
+    ensures { λ r. ⌜ r ≡ wordOfKind kind ⌝ }
+{
+    if kind == kind::INSERT {
+        return word::INSERT;
+    }
+    if kind == kind::FIND {
+        return word::FIND;
+    }
+    if kind == kind::DELETE {
+        return word::DELETE;
+    }
+    NOTHING
+}
+
+// The word of an answer, by its number; nothing where it has none.
+fn answer_word(answer: u32) -> u8
+    ensures { λ r. ⌜ r ≡ wordOfAnswer answer ⌝ }
+{
+    if answer == 1 {
+        return word::YES;
+    }
+    if answer == 2 {
+        return word::NO;
+    }
+    if answer == 18 {
+        return word::FULL;
+    }
+    if answer == 19 {
+        return word::DUMMY;
+    }
+    NOTHING
+}
+
+// A register that was prepared.
+fn register_pieces(m: u32, k: u32, w: u32, l: u32) -> Pieces
+    ensures { λ r. ⌜ r ≡ registerPieces m k w l ⌝ }
+{
+    let words = [REGISTER, SPACE, SPACE, SPACE, NEWLINE];
+    let numbers = [m as u64, k as u64, w as u64, l as u64];
+    Pieces {
+        words: words,
+        numbers: numbers,
+        count: 4,
+    }
+}
+
+// An operation that ended; nothing where the kind or the answer has no word.
+fn ended_pieces(worker: u32, kind: u32, key: u32, answer: u32, steps: u32) -> Pieces
+    ensures { λ r. ⌜ r ≡ endedPieces worker kind key answer steps ⌝ }
+{
+    let what = kind_word(kind);
+    let told = answer_word(answer);
+    let words = [NOTHING, what, told, NEWLINE, NOTHING];
+    let numbers = [worker as u64, key as u64, steps as u64, 0];
+    if (what == NOTHING) | (told == NOTHING) {
+        return Pieces {
+            words: words,
+            numbers: numbers,
+            count: 0,
+        };
+    }
+    Pieces {
+        words: words,
+        numbers: numbers,
+        count: 3,
+    }
+}
+
+// A refusal that does not end an operation.
+fn refused_pieces(number: u32, offset: usize) -> Pieces
+    ensures { λ r. ⌜ r ≡ refusedPieces number offset ⌝ }
+{
+    let words = [REFUSED, SPACE, NEWLINE, NOTHING, NOTHING];
+    let numbers = [number as u64, offset as u64, 0, 0];
+    Pieces {
+        words: words,
+        numbers: numbers,
+        count: 2,
+    }
+}
+
+// The end of a run. The count is signed: where its top bit is set, a minus and what it lacks to 2 ^ 32.
+fn end_pieces(keys: u32, count: u32, size: u32) -> Pieces
+    ensures { λ r. ⌜ r ≡ endPieces keys count size ⌝ }
+{
+    if count < 2147483648 {
+        let words = [END, SPACE, SPACE, NEWLINE, NOTHING];
+        let numbers = [keys as u64, count as u64, size as u64, 0];
+        return Pieces {
+            words: words,
+            numbers: numbers,
+            count: 3,
+        };
+    }
+    let words = [END, MINUS, SPACE, NEWLINE, NOTHING];
+    let numbers = [keys as u64, 4294967296 - (count as u64), size as u64, 0];
+    Pieces {
+        words: words,
+        numbers: numbers,
+        count: 3,
+    }
+}
+
+// The pieces of a line.
+fn pieces_of(line: Line) -> Pieces
+    ensures { λ r. ⌜ r ≡ piecesOf line ⌝ }
+{
+    match line {
+        Line::Register { m, k, w, l } => register_pieces(m, k, w, l),
+        Line::Ended {
+            worker,
+            kind,
+            key,
+            answer,
+            steps,
+        } => ended_pieces(worker, kind, key, answer.number(), steps),
+        Line::Refused { number, offset } => refused_pieces(number, offset),
+        Line::End { keys, count, size } => end_pieces(keys, count, size),
+    }
+}
+
+// The lesser of two numbers.
+fn lesser(a: usize, b: usize) -> usize
+    ensures { λ r. ⌜ r ≡ min a b ⌝ }
+{
+    if a < b { a } else { b }
+}
+
+// Where a word starts in the text of all the words; 0 where there is no such word.
+fn start_of(word: usize) -> usize
+    ensures { λ r. ⌜ r ≡ getD STARTS word 0 ⌝ }
+{
+    let starts = [0, 0, 9, 17, 21, 22, 24, 32, 38, 46, 51, 55, 61, 68, 69];
+    if word < 15 { starts[word] } else { 0 }
+}
+
+// The words side by side, and of them one.
+fn put_word(out: &mut [u8], at: usize, word: u8) -> usize
+    ensures { λ r. ⌜ Laid (now (out .entry)) at (wordAt word) (now (out .exit)) r ⌝ }
+{
+    let words = *b"register refused end   - insert  find  delete  yes  no  full  dummy \n";
+    let end = lesser(start_of((word as usize) + 1), 69);
+    let start = lesser(start_of(word as usize), end);
+    put_text(out, at, &words[start..end])
 }
 
 // A number in decimal, with no zero in front.
@@ -51,155 +211,25 @@ fn put_number(out: &mut [u8], at: usize, n: u64) -> usize
     put_text(out, at, &digits[..count])
 }
 
-// A 32-bit word as a signed number: its top bit says that it is below zero.
-fn put_signed(out: &mut [u8], at: usize, n: u32) -> usize
-    ensures { λ r. ⌜ Laid (now (out .entry)) at (signed n) (now (out .exit)) r ⌝ }
+// A word, and the number right after it.
+fn put_piece(out: &mut [u8], at: usize, word: u8, n: u64) -> usize
+    ensures { λ r. ⌜ Laid (now (out .entry)) at (wordAt word ++ decimal n) (now (out .exit)) r ⌝ }
 {
-    if n < 2147483648 {
-        return put_number(out, at, n as u64);
-    }
-    let place = put_text(out, at, b"-");
-    put_number(out, place, 4294967296 - (n as u64))
+    let place = put_word(out, at, word);
+    put_number(out, place, n)
 }
 
-// A number, and the byte that ends it: a space or a newline.
-fn put_field(out: &mut [u8], at: usize, n: u64, close: u8) -> usize
-    ensures { λ r. ⌜ Laid (now (out .entry)) at (decimal n ++ (close ∷ [])) (now (out .exit)) r ⌝ }
-{
-    let place = put_number(out, at, n);
-    let closing = [close];
-    put_text(out, place, &closing)
-}
-
-// The line of a register that was prepared.
-fn put_register(out: &mut [u8], at: usize, m: u32, k: u32, w: u32, l: u32) -> usize
-    ensures { λ r. ⌜ Laid (now (out .entry)) at (registerLine m k w l) (now (out .exit)) r ⌝ }
-{
-    let word = put_text(out, at, b"register ");
-    let first = put_field(out, word, m as u64, 32);
-    let second = put_field(out, first, k as u64, 32);
-    let third = put_field(out, second, w as u64, 32);
-    put_field(out, third, l as u64, 10)
-}
-
-// Where the word of a kind stands, with the space after it; the space alone where the kind has none.
-fn kind_span(kind: u32) -> Span
-    ensures { λ r. ⌜ r ≡ kindSpan kind ⌝ }
-{
-    if kind == kind::INSERT {
-        return Span { from: 0, to: 7 };
-    }
-    if kind == kind::FIND {
-        return Span { from: 7, to: 12 };
-    }
-    if kind == kind::DELETE {
-        return Span { from: 12, to: 19 };
-    }
-    Span { from: 6, to: 7 }
-}
-
-// Where the word of an answer stands, by its number, with the space after it; the space alone where the answer has none.
-fn answer_span(answer: u32) -> Span
-    ensures { λ r. ⌜ r ≡ answerSpan answer ⌝ }
-{
-    if answer == 1 {
-        return Span { from: 19, to: 23 };
-    }
-    if answer == 2 {
-        return Span { from: 23, to: 26 };
-    }
-    if answer == 18 {
-        return Span { from: 26, to: 31 };
-    }
-    if answer == 19 {
-        return Span { from: 31, to: 37 };
-    }
-    Span { from: 6, to: 7 }
-}
-
-// The words of the kinds and of the answers, side by side, and of them the one at a span.
-fn put_name(out: &mut [u8], at: usize, span: Span) -> usize
-    requires { ⌜ Fits span ⌝ }
-    ensures { λ r. ⌜ Laid (now (out .entry)) at (named span) (now (out .exit)) r ⌝ }
-{
-    let names = *b"insert find delete yes no full dummy ";
-    let from = span.from;
-    let to = span.to;
-    put_text(out, at, &names[from..to])
-}
-
-// The kind has a word.
-fn kind_named(kind: u32) -> bool
-    ensures { λ r. ⌜ r ≡ kindNamed kind ⌝ }
-{
-    (kind == kind::INSERT) | ((kind == kind::FIND) | (kind == kind::DELETE))
-}
-
-// The answer has a word: the operation has ended.
-fn answer_named(answer: u32) -> bool
-    ensures { λ r. ⌜ r ≡ answerNamed answer ⌝ }
-{
-    (answer == 1) | ((answer == 2) | ((answer == 18) | (answer == 19)))
-}
-
-// The line of an operation that ended; nothing where the kind or the answer has no word.
-fn put_ended(
-    out: &mut [u8],
-    at: usize,
-    worker: u32,
-    kind: u32,
-    key: u32,
-    answer: Answer,
-    steps: u32,
-) -> usize
-    ensures { λ r. ⌜ Laid (now (out .entry)) at (endedLine worker kind key (numberOf answer) steps) (now (out .exit)) r ⌝ }
-{
-    let number = answer.number();
-    if kind_named(kind) & answer_named(number) {
-        let first = put_field(out, at, worker as u64, 32);
-        let second = put_name(out, first, kind_span(kind));
-        let third = put_field(out, second, key as u64, 32);
-        let fourth = put_name(out, third, answer_span(number));
-        put_field(out, fourth, steps as u64, 10)
-    } else {
-        put_text(out, at, b"")
-    }
-}
-
-// The line of a refusal that does not end an operation.
-fn put_refused(out: &mut [u8], at: usize, number: u32, offset: usize) -> usize
-    ensures { λ r. ⌜ Laid (now (out .entry)) at (refusedLine number offset) (now (out .exit)) r ⌝ }
-{
-    let word = put_text(out, at, b"refused ");
-    let first = put_field(out, word, number as u64, 32);
-    put_field(out, first, offset as u64, 10)
-}
-
-// The last line: the registered keys, the count as a signed number, and the size.
-fn put_end(out: &mut [u8], at: usize, keys: u32, count: u32, size: u32) -> usize
-    ensures { λ r. ⌜ Laid (now (out .entry)) at (endLine keys count size) (now (out .exit)) r ⌝ }
-{
-    let word = put_text(out, at, b"end ");
-    let first = put_field(out, word, keys as u64, 32);
-    let second = put_signed(out, first, count);
-    let third = put_text(out, second, b" ");
-    put_field(out, third, size as u64, 10)
-}
-
-// A line.
+// A line, number by number, and the word after the last.
 pub fn put_line(out: &mut [u8], at: usize, line: Line) -> usize
     ensures { λ r. ⌜ Laid (now (out .entry)) at (lineText line) (now (out .exit)) r ⌝ }
 {
-    match line {
-        Line::Register { m, k, w, l } => put_register(out, at, m, k, w, l),
-        Line::Ended {
-            worker,
-            kind,
-            key,
-            answer,
-            steps,
-        } => put_ended(out, at, worker, kind, key, answer, steps),
-        Line::Refused { number, offset } => put_refused(out, at, number, offset),
-        Line::End { keys, count, size } => put_end(out, at, keys, count, size),
+    let pieces = pieces_of(line);
+    let count = pieces.count;
+    let mut place = at;
+    let mut i = 0;
+    while i < count {
+        place = put_piece(out, place, pieces.words[i], pieces.numbers[i]);
+        i += 1;
     }
+    put_word(out, place, pieces.words[count])
 }

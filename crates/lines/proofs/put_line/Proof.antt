@@ -1,75 +1,101 @@
--- Each arm is its line's own clause.
--- Assumes nothing.
+-- The loop's invariant: whatever is laid where the last number ended is laid after all the words and numbers so far.
+-- The measure is how many numbers are left. Assumes nothing.
+use Prim.Native.Nat.{ℕ, suc, _+_, _-_, _≤_}
+use mathlib.Core.Path.{_≡_, refl, sym, ap, _∙_}
+use mathlib.Core.List.{List, _++_, append-assoc}
+use native.Mathlib.Numerals.{add-one}
+use native.Mathlib.Omega.{arith}
 use borrow.Author.Needs.{needs}
-use Rattle.text.proofs.Laying.{laid-as}
+use lib.ListN.{length, getD}
+use Rattle.text.specs.Text.{Laid}
+use Rattle.text.proofs.Laying.{laid-on, laid-as}
+use Rattle.lines.specs.declared.Line.{Line}
+use Rattle.lines.specs.declared.Pieces.{Pieces}
+use Rattle.lines.specs.Decimal.{decimal}
+use Rattle.lines.specs.Words.{wordAt}
+use Rattle.lines.specs.Pieces.{upTo, piecesOf, piecesText}
+use Rattle.lines.proofs.Joined.{said, count-most}
 use Rattle.lines.proofs.put_line.Statement.{statement}
 use Rattle.lines.proofs.put_line.Tie as tie
 
-enum-known-line : tie.Need-enum-known-line
-enum-known-line c = search needs
+-- no line has more than four numbers
+few : (p : Pieces) (l : Line) → p ≡ piecesOf l → p .count ≤ 4
+few p l e = rw e (count-most l)
 
-put-register-requires : tie.Need-put-register-requires
-put-register-requires c κs = tt
+-- one number more, with its word before it
+one-more : (n : ℕ) (ps : Pieces) (text : List ℕ) → upTo n ps ++ ((wordAt (getD (ps .words) n 0) ++ decimal (getD (ps .numbers) n 0)) ++ text) ≡ upTo (n + 1) ps ++ text
+one-more n ps text = rw (add-one n) (sym (append-assoc (upTo n ps) (wordAt (getD (ps .words) n 0) ++ decimal (getD (ps .numbers) n 0)) text))
 
-enum-known-line-2 : tie.Need-enum-known-line-2
-enum-known-line-2 c = search needs
+abbrev Inv-loop : tie.InvT-loop
+Inv-loop out₀ at pieces count place₀ i₀ out place i =
+    (length out ≡ length out₀) × (i ≤ pieces .count)
+    × ((text exit : List ℕ) (end : ℕ) → Laid out place text exit end → Laid out₀ at (upTo i pieces ++ text) exit end)
 
-put-ended-requires : tie.Need-put-ended-requires
-put-ended-requires c κs = tt
+abbrev μ-loop : tie.MeasureT-loop
+μ-loop out₀ at pieces count place₀ i₀ out place i = pieces .count - i
 
-enum-known-line-3 : tie.Need-enum-known-line-3
-enum-known-line-3 c = search needs
+pieces-of-requires : tie.Need-pieces-of-requires Inv-loop μ-loop
+pieces-of-requires c κs = tt
 
-put-refused-requires : tie.Need-put-refused-requires
-put-refused-requires c κs = tt
+loop-holds : tie.Need-loop-holds Inv-loop μ-loop
+loop-holds c = (refl, omega arith, λ text exit end h. h)
 
-enum-known-line-4 : tie.Need-enum-known-line-4
-enum-known-line-4 c = search needs
+element-copy-out-put-piece : tie.Need-element-copy-out-put-piece Inv-loop μ-loop
+element-copy-out-put-piece c = let p = c .before .before .before in omega (arith, few (p .pieces-of .result) (p .before .before .args .line) (p .pieces-of .ensures))
 
-put-end-requires : tie.Need-put-end-requires
-put-end-requires c κs = tt
+mul-put-piece : tie.Need-mul-put-piece Inv-loop μ-loop
+mul-put-piece c = let p = c .before .before .before .before in search (needs, few (p .pieces-of .result) (p .before .before .args .line) (p .pieces-of .ensures))
 
-same-length : tie.Need-same-length
+element-copy-out-put-piece-2 : tie.Need-element-copy-out-put-piece-2 Inv-loop μ-loop
+element-copy-out-put-piece-2 c = let p = c .before .before .before .before in omega (arith, few (p .pieces-of .result) (p .before .before .args .line) (p .pieces-of .ensures))
+
+put-piece-requires : tie.Need-put-piece-requires Inv-loop μ-loop
+put-piece-requires c κs = tt
+
+add-i : tie.Need-add-i Inv-loop μ-loop
+add-i c = omega arith
+
+loop-less : tie.Need-loop-less Inv-loop μ-loop
+loop-less c = omega arith
+
+loop-again : tie.Need-loop-again Inv-loop μ-loop
+loop-again c =
+    let l = c .before .before .before .before .before .before .before .loop in
+    let p = c .before .before .before .before .before .before .before .before .pieces-of .result in
+    (search needs, omega arith, λ text exit end h. laid-as (one-more (l .i) p text) (l .inv .2 _ exit end (laid-on (c .before .before .put-piece .ensures) h)))
+
+element-copy-out-put-word : tie.Need-element-copy-out-put-word Inv-loop μ-loop
+element-copy-out-put-word c = let p = c .before .before .before in omega (arith, few (p .pieces-of .result) (p .before .before .args .line) (p .pieces-of .ensures))
+
+put-word-requires : tie.Need-put-word-requires Inv-loop μ-loop
+put-word-requires c κs = tt
+
+same-length : tie.Need-same-length Inv-loop μ-loop
 same-length c = search needs
 
-returns : tie.Need-returns
-returns c = rw (c .before .before .before .before .before .line .given .1) (c .before .before .put-register .ensures)
-
-same-length-2 : tie.Need-same-length-2
-same-length-2 c = search needs
-
-returns-2 : tie.Need-returns-2
-returns-2 c = rw (c .before .before .before .before .before .line2 .given .1) (c .before .before .put-ended .ensures)
-
-same-length-3 : tie.Need-same-length-3
-same-length-3 c = search needs
-
-returns-3 : tie.Need-returns-3
-returns-3 c = rw (c .before .before .before .before .before .line3 .given .1) (c .before .before .put-refused .ensures)
-
-same-length-4 : tie.Need-same-length-4
-same-length-4 c = search needs
-
-returns-4 : tie.Need-returns-4
-returns-4 c = rw (c .before .before .before .before .before .line4 .given .1) (c .before .before .put-end .ensures)
+returns : tie.Need-returns Inv-loop μ-loop
+returns c =
+    let l = c .before .before .before .before .before .before .loop in
+    let p = c .before .before .before .before .before .before .before .pieces-of in
+    let all : l .i ≡ p .result .count = omega arith in
+    laid-as (ap (λ (n : ℕ). upTo n (p .result) ++ wordAt (getD (p .result .words) (p .result .count) 0)) all ∙ ap piecesText (p .ensures) ∙ said (c .before .before .before .before .before .before .before .before .before .args .line)) (l .inv .2 _ _ _ (c .before .before .put-word .ensures))
 
 pub put-line-spec : {M : Type 1} → statement M
 put-line-spec =
     tie.close
     (tie.spec
-    enum-known-line
-    put-register-requires
-    enum-known-line-2
-    put-ended-requires
-    enum-known-line-3
-    put-refused-requires
-    enum-known-line-4
-    put-end-requires
+    Inv-loop
+    μ-loop
+    pieces-of-requires
+    loop-holds
+    element-copy-out-put-piece
+    mul-put-piece
+    element-copy-out-put-piece-2
+    put-piece-requires
+    add-i
+    loop-less
+    loop-again
+    element-copy-out-put-word
+    put-word-requires
     same-length
-    returns
-    same-length-2
-    returns-2
-    same-length-3
-    returns-3
-    same-length-4
-    returns-4)
+    returns)

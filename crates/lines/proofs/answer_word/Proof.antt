@@ -1,0 +1,36 @@
+-- Each test that was passed says which way the definition goes.
+-- Assumes nothing.
+use Rattle.choice.proofs.Auto.{choices}
+use Rattle.lines.specs.Words.{wordOfAnswer}
+use Rattle.lines.proofs.answer_word.Statement.{statement}
+use Rattle.lines.proofs.answer_word.Tie as tie
+
+returns : tie.Need-returns
+unfolding wordOfAnswer
+returns c = search choices
+
+returns-2 : tie.Need-returns-2
+unfolding wordOfAnswer
+returns-2 c = search choices
+
+returns-3 : tie.Need-returns-3
+unfolding wordOfAnswer
+returns-3 c = search choices
+
+returns-4 : tie.Need-returns-4
+unfolding wordOfAnswer
+returns-4 c = search choices
+
+returns-5 : tie.Need-returns-5
+unfolding wordOfAnswer
+returns-5 c = search choices
+
+pub answer-word-spec : {M : Type 1} → statement M
+answer-word-spec =
+    tie.close
+    (tie.spec
+    returns
+    returns-2
+    returns-3
+    returns-4
+    returns-5)

@@ -1,0 +1,49 @@
+-- The words are those of the definition, and so is the test that is made of them.
+-- Assumes nothing.
+use Prim.Native.Nat.{ℕ}
+use mathlib.Core.Bool.{_||_}
+use mathlib.Core.Path.{_≡_, _∙_}
+use lib.Dec.{eqb}
+use Rattle.choice.proofs.Auto.{then-is, else-is}
+use Rattle.lines.specs.Word.{NOTHING}
+use Rattle.lines.specs.Pieces.{endedOf, endedPieces}
+use Rattle.lines.proofs.ended_pieces.Statement.{statement}
+use Rattle.lines.proofs.ended_pieces.Tie as tie
+
+-- of the same words the test and the pieces are the same
+same-test : {k k′ a a′ : ℕ} → k ≡ k′ → a ≡ a′ → eqb k′ NOTHING || eqb a′ NOTHING ≡ eqb k NOTHING || eqb a NOTHING
+same-test e f = rw (e, f)
+
+same-pieces : {k k′ a a′ : ℕ} (count worker key steps : ℕ) → k ≡ k′ → a ≡ a′ → endedOf count worker k key a steps ≡ endedOf count worker k′ key a′ steps
+same-pieces count worker key steps e f = rw (e, f)
+
+kind-word-requires : tie.Need-kind-word-requires
+kind-word-requires c κs = tt
+
+answer-word-requires : tie.Need-answer-word-requires
+answer-word-requires c κs = tt
+
+returns : tie.Need-returns
+unfolding endedPieces
+returns c =
+    let k = c .before .before .kind-word .ensures in
+    let a = c .before .answer-word .ensures in
+    let s = c .before .before .before .args in
+    then-is _ _ _ _ (same-test k a ∙ c .if1 .taken) (same-pieces 0 (s .worker) (s .key) (s .steps) k a)
+
+returns-2 : tie.Need-returns-2
+unfolding endedPieces
+returns-2 c =
+    let k = c .before .before .kind-word .ensures in
+    let a = c .before .answer-word .ensures in
+    let s = c .before .before .before .args in
+    else-is _ _ _ _ (same-test k a ∙ c .if1 .left) (same-pieces 3 (s .worker) (s .key) (s .steps) k a)
+
+pub ended-pieces-spec : {M : Type 1} → statement M
+ended-pieces-spec =
+    tie.close
+    (tie.spec
+    kind-word-requires
+    answer-word-requires
+    returns
+    returns-2)
