@@ -128,13 +128,13 @@ class Bank:
             limits = "use Rattle.prepare.specs.declared.Limits.{Limits}\nuse Rattle.prepare.proofs.Limits as tyL\nuse Rattle.prepare.proofs.Limits.Laws as lawL\n"
             return dict(nat="ℕ", syntax="named", val="Val", of_numbers="", of_value=limits, mach="machH, machL", typed="typedH, typedL")
         numbers = "use denote.Plain.{uint-makes, uint-vals, uint-tells}\n"
         call = "use Rattle.crew.specs.declared.Call.{Call}\nuse denote.Enum.Laws as EL\nuse Rattle.crew.proofs.Call as tyK\nuse Rattle.crew.proofs.Call.Laws as lawK\n"
         return dict(nat="ℕ, _<_, _^_", syntax="named, w32", val="Val, vint", of_numbers=numbers, of_value=call, mach="machH, machK", typed="typedH, typedK")
 
     def filled(self):
         values, count = self.values, len(self.values)
         return dict(
-            name=self.call + "_bank", dash=self.call + "-bank", call=self.call, whole=self.whole, whole_is=self.whole_is,
+            call=self.call, whole=self.whole, whole_is=self.whole_is,
             stayed=nest(["stay-none (λ _. rowA) yes", *(f"stay-none (λ _. {v.row}) yes" for v in values), *(f"gave-slice ({j} ∷ []) tt (plain (λ _. u32))" for j in (0, 1))]),
             goes_all=nest(["goes-none 𝓤 H A W 2 (λ _. rowA) yes (λ κs x f. refl)", *(f"goes-none 𝓤 H A W 2 (λ _. {v.row}) yes (λ κs x f. refl)" for v in values), *(f"goes-gave-slice 𝓤 H A W 2 {j} tt (plain (λ _. u32))" for j in (0, 1))]),
             arg=arg_type("List Worker", values), binders=binders(values), facts=facts(values), lent=LENT, rooms=ROOMS, words=WORDS, tokens=TOKENS,

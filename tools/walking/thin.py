@@ -140,7 +140,7 @@ class Thin:
         held.say(f"\nreturns ! (look ! {held.cell(0)} refl) $")
         held.leave([self.nodes_len, self.buckets_len], self.count)
         held.keep("obs", "borrow", "token", "tokens-words", "ended-1", "ended-2")
-        held.say(f"by ! (stored-with r {self.ended(1)} {self.ended(2)} (called-of r _ is) ({self.within} {self.laws_at} (outcome r) {self.ended(1)} {self.ended(2)} e) e₁ e₂)")
+        held.say(f"by ! (stored-with r {self.ended(1)} {self.ended(2)} (called-of r _ is) ({self.within} {self.laws_at} {INSIDE} (outcome r) {self.ended(1)} {self.ended(2)} e) e₁ e₂)")
 
     def steps(self):
         held = Held(locals_held(self.count) + ["tokens", "owns"])

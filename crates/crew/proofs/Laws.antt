@@ -1,15 +1,14 @@
 -- The register's own calls refuse a worker that is W or above, so past the table nothing changes; and a record that is stored back as it came changes nothing.
 -- Assumes nothing.
-use Prim.Native.Nat.{ℕ, zero, suc, _≤_, _-_, _<_}
+use Prim.Native.Nat.{ℕ, zero, suc, _+_, _-_, _≤_, _<_}
 use native.Mathlib.Omega.{arith}
-use native.Mathlib.Decide.{decLt}
 use mathlib.Core.Path.{_≡_, refl, sym, ap, subst, _∙_}
-use mathlib.Core.Bool.{Bool, true, false}
+use mathlib.Core.Bool.{Bool, true, false, false≢true, _&&_}
 use mathlib.Core.List.{List}
 use lib.Dec.{ltb, leb, eqb}
 use lib.ListN.{length, getD, set, length-set}
 use lib.Seq.{set-getD, set-set, getD-set-same}
-use borrow.Author.Tests.{le-leb, ltb-false, ne-eqb, ltb-true}
+use borrow.Author.Tests.{le-leb, lt-ltb, ltb-false, ne-eqb, ltb-true}
 use Rattle.choice.specs.Choice.{pick}
 use Rattle.choice.proofs.Auto.{pick-false, pick-true}
 use Rattle.choice.proofs.Cases.{by-bool, both}
@@ -24,9 +23,15 @@ use Rattle.prepare.specs.declared.Limits.{Limits}
 use Rattle.register.specs.declared.Turn.{Turn}
 use Rattle.writes.specs.declared.Outcome.{Outcome}
 use Rattle.names.specs.declared.Verdict.{Verdict}
-use Rattle.names.specs.declared.Verdict.the-variants.{Refused}
+use Rattle.names.specs.declared.Verdict.the-variants.{Refused, Pass}
+use Rattle.acts.specs.declared.Effect.{Effect}
+use Rattle.acts.specs.declared.Effect.the-variants.{Nothing, Take, Free, Aim, Place, Mark, Unlink, Store, Count, Size}
+use Rattle.acts.specs.declared.Move.{Move}
+use Rattle.acts.specs.declared.Move.the-variants.{Damaged as Hurt, Going, Ended}
+use Rattle.moves.specs.Moves.{decided}
+use Rattle.writes.specs.Writes.{headerAfter}
 use Rattle.writes.specs.Carry.{After, after}
-use Rattle.register.specs.Step.{refusedWith}
+use Rattle.register.specs.Step.{refusedWith, seenBy, carried}
 use Rattle.prepare.specs.Prepare.{Kept, freshHeader, prepared}
 use Rattle.header.specs.Header.{isShort}
 use Rattle.register.specs.Calls.{startedBy, startVerdict, startOf, steppedBy, stepVerdict, stepOf}
@@ -34,7 +39,7 @@ use Rattle.crew.specs.declared.Call.{Call}
 use Rattle.crew.specs.declared.Call.the-variants.{Start, Steps}
 use Rattle.crew.specs.declared.Ready.{Ready}
 use Rattle.crew.specs.Crew.{Left, left, refused, called, turnAt, stored, tooFew, stepAt, startAt, filled, ready, tooFewFor, prepareAt, turn, going, moreAt, stepsAt, serveAt}
-use Rattle.crew.specs.One.{pastOf, stepOne, startOne, wants, Wanted, wanted, prepareOne, moreOne, stepsOne, serveOne}
+use Rattle.crew.specs.One.{pastOf, mostOf, callOf, serveOne, wants, Wanted, wanted, prepareOne}
 
 -- the first three rows of a start and of a step, where the third holds
 three : (d s n : Bool) (later : Verdict) → n ≡ true → pick d (Refused Damaged) (pick s (Refused Short) (pick n (Refused NoWorker) later)) ≡ Refused (pick d Damaged (pick s Short NoWorker))
@@ -86,10 +91,10 @@ module _ (h : Header) (ws : List Worker) (w : ℕ) (ns bs : List ℕ) where
       by-bool (λ (z : Left). left (refused far h) ws ns bs ≡ z) (ltb (length ws) (h .w)) few-is
       (λ e. sym (as-it-was far) ∙ ap (stored ws w) (sym (step-far l e)))
 
-  -- a worker with its record in hand
-  pub step-in : (o : Outcome) (ms cs : List ℕ) → after o ms cs ≡ stepOne t (length ws) ns bs → left (called o) (set ws w (o .worker)) ms cs ≡ stepAt h ws w ns bs
-  unfolding stepOne stepAt
-  step-in o ms cs e = ap (stored ws w) e ∙ stored-pick ws w (ltb (length ws) (h .w)) _ _ _ (as-it-was (tooFew h))
+  -- where there are enough records, a step over the table is a step with the record in hand, stored back
+  step-enough : ltb (length ws) (h .w) ≡ false → stepAt h ws w ns bs ≡ stored ws w (stepOf t ns bs)
+  unfolding stepAt
+  step-enough e = pick-false _ _ _ e
 
   module _ (kind key : ℕ) where
     start-far : length ws ≤ w → ltb (length ws) (h .w) ≡ false → startOf t kind key (length ns) (length bs) ≡ refusedWith far t
@@ -102,60 +107,78 @@ module _ (h : Header) (ws : List Worker) (w : ℕ) (ns bs : List ℕ) where
         by-bool (λ (z : Left). left (refused far h) ws ns bs ≡ z) (ltb (length ws) (h .w)) few-is
         (λ e. sym (as-it-was far) ∙ ap (λ (o : Outcome). stored ws w (after o ns bs)) (sym (start-far l e)))
 
-    pub start-in : (o : Outcome) (ms cs : List ℕ) → after o ms cs ≡ startOne t (length ws) kind key ns bs → left (called o) (set ws w (o .worker)) ms cs ≡ startAt h ws w kind key ns bs
-    unfolding startOne startAt
-    start-in o ms cs e = ap (stored ws w) e ∙ stored-pick ws w (ltb (length ws) (h .w)) _ _ _ (as-it-was (tooFew h))
+-- a write leaves the limits and the busy set as they are
+pub sized : (e : Effect) (h : Header) → (headerAfter e h .m ≡ h .m) × (headerAfter e h .k ≡ h .k) × (headerAfter e h .w ≡ h .w) × (headerAfter e h .busy ≡ h .busy)
+sized Nothing h = (refl, refl, refl, refl)
+sized (Take n split) h = (refl, refl, refl, refl)
+sized (Free n) h = (refl, refl, refl, refl)
+sized (Aim n next) h = (refl, refl, refl, refl)
+sized (Place n next prev) h = (refl, refl, refl, refl)
+sized (Mark n next) h = (refl, refl, refl, refl)
+sized (Unlink prev next n busy) h = (refl, refl, refl, refl)
+sized (Store b n) h = (refl, refl, refl, refl)
+sized (Count v) h = (refl, refl, refl, refl)
+sized (Size v) h = (refl, refl, refl, refl)
+
+-- so a step leaves W
+step-width : (t : Turn) (ns bs : List ℕ) → stepOf t ns bs .out .header .w ≡ t .header .w
+unfolding stepOf
+step-width t ns bs = by-verdict (stepVerdict t (length ns) (length bs))
+  where
+    by-move : (d : Move) → carried t d ns bs .out .header .w ≡ t .header .w
+    by-move Hurt = refl
+    by-move (Going y e) = sized e (t .header) .2
+    by-move (Ended a e) = sized e (t .header) .2
+
+    by-verdict : (v : Verdict) → steppedBy t ns bs v .out .header .w ≡ t .header .w
+    by-verdict (Refused a) = refl
+    by-verdict Pass = by-move (decided (seenBy t ns bs))
 
 -- ---- several steps: while a worker goes on its record is in the table, so one store at the end is enough
--- one turn of the loop, and its end
-pub more-none : (w len : ℕ) (a : After) → moreOne w len 0 a ≡ a
-unfolding moreOne
-more-none w len a = refl
+-- the loop's test is that steps are left and that the last went on: one turn of the loop, and its end
+pub turns-left : (turns : ℕ) (b : Bool) → ltb 0 turns && b ≡ true → 0 < turns
+turns-left zero b e = absurd (false≢true e)
+turns-left (suc turns) b e = omega arith
 
-pub more-stop : (w len more : ℕ) (a : After) → going (a .out .answer) ≡ false → moreOne w len more a ≡ a
-unfolding moreOne
-more-stop w len zero a e = refl
-more-stop w len (suc more) a e = pick-false _ _ _ e
+pub most-on : (w left : ℕ) (a : After) → ltb 0 left && going (a .out .answer) ≡ true → mostOf w left a ≡ mostOf w (left - 1) (stepOf (turn (a .out .header) w (a .out .worker)) (a .nodes) (a .buckets))
+unfolding mostOf
+most-on w zero a e = absurd (false≢true e)
+most-on w (suc left) a e =
+    let one : suc left - 1 ≡ left = omega arith in
+    pick-true _ _ _ (rw (lt-ltb 0 (suc left) (omega arith)) at e) ∙ rw one
 
-pub more-on : (w len more : ℕ) (a : After) → 0 < more → going (a .out .answer) ≡ true → moreOne w len more a ≡ moreOne w len (more - 1) (stepOne (turn (a .out .header) w (a .out .worker)) len (a .nodes) (a .buckets))
-unfolding moreOne
-more-on w len zero a h e = absurd (omega arith)
-more-on w len (suc more) a h e =
-    let one : suc more - 1 ≡ more = omega arith in
-    pick-true _ _ _ e ∙ rw one
+pub most-over : (w left : ℕ) (a : After) → ltb 0 left && going (a .out .answer) ≡ false → mostOf w left a ≡ a
+unfolding mostOf
+most-over w zero a e = refl
+most-over w (suc left) a e = pick-false _ _ _ (rw (lt-ltb 0 (suc left) (omega arith)) at e)
 
 more-at-stop : (w more : ℕ) (l : Left) → going (l .called .answer) ≡ false → moreAt w more l ≡ l
 unfolding moreAt
 more-at-stop w zero l e = refl
 more-at-stop w (suc more) l e = pick-false _ _ _ e
 
--- a step over the table is a step with the record in hand, stored back
-step-stored : (h : Header) (ws : List Worker) (w : ℕ) (ns bs : List ℕ) → stored ws w (stepOne (turnAt h ws w) (length ws) ns bs) ≡ stepAt h ws w ns bs
-step-stored h ws w ns bs = let a = stepOne (turnAt h ws w) (length ws) ns bs in step-in h ws w ns bs (a .out) (a .nodes) (a .buckets) refl
-
-module _ (ws : List Worker) (w : ℕ) (h : w < length ws) where
+module _ (ws : List Worker) (w : ℕ) (within : w < length ws) where
   -- the next step finds the record that was stored
-  next-stored : (a : After) → stepAt (a .out .header) (set ws w (a .out .worker)) w (a .nodes) (a .buckets) ≡ stored ws w (stepOne (turn (a .out .header) w (a .out .worker)) (length ws) (a .nodes) (a .buckets))
-  next-stored a =
+  next-stored : (a : After) → ltb (length ws) (a .out .header .w) ≡ false → stepAt (a .out .header) (set ws w (a .out .worker)) w (a .nodes) (a .buckets) ≡ stored ws w (stepOf (turn (a .out .header) w (a .out .worker)) (a .nodes) (a .buckets))
+  next-stored a e =
       let x = a .out .worker in
-      let zs = set ws w x in
-      let b = stepOne (turn (a .out .header) w x) (length ws) (a .nodes) (a .buckets) in
-      sym (step-stored (a .out .header) zs w (a .nodes) (a .buckets))
-      ∙ rw (getD-set-same ws w x idle h, length-set ws w x) (ap (λ (l : List Worker). left (called (b .out)) l (b .nodes) (b .buckets)) (set-set ws w x (b .out .worker)))
+      let b = stepOf (turn (a .out .header) w x) (a .nodes) (a .buckets) in
+      step-enough (a .out .header) (set ws w x) w (a .nodes) (a .buckets) (rw (length-set ws w x) e)
+      ∙ rw (getD-set-same ws w x idle within) (ap (λ (l : List Worker). left (called (b .out)) l (b .nodes) (b .buckets)) (set-set ws w x (b .out .worker)))
 
-  more-stored : (more : ℕ) (a : After) → stored ws w (moreOne w (length ws) more a) ≡ moreAt w more (stored ws w a)
-  unfolding moreOne moreAt pick
-  more-stored zero a = refl
-  more-stored (suc more) a = by-test (going (a .out .answer)) (more-stored more (stepOne (turn (a .out .header) w (a .out .worker)) (length ws) (a .nodes) (a .buckets)))
+  more-stored : (more : ℕ) (a : After) → ltb (length ws) (a .out .header .w) ≡ false → stored ws w (mostOf w more a) ≡ moreAt w more (stored ws w a)
+  unfolding mostOf moreAt pick
+  more-stored zero a e = refl
+  more-stored (suc more) a e = by-test (going (a .out .answer)) (more-stored more b (ap (ltb (length ws)) (step-width (turn (a .out .header) w (a .out .worker)) (a .nodes) (a .buckets)) ∙ e))
     where
       b : After
-      b = stepOne (turn (a .out .header) w (a .out .worker)) (length ws) (a .nodes) (a .buckets)
+      b = stepOf (turn (a .out .header) w (a .out .worker)) (a .nodes) (a .buckets)
 
       by-test :
-          (t : Bool) → stored ws w (moreOne w (length ws) more b) ≡ moreAt w more (stored ws w b)
-          → stored ws w (pick t (moreOne w (length ws) more b) a)
+          (t : Bool) → stored ws w (mostOf w more b) ≡ moreAt w more (stored ws w b)
+          → stored ws w (pick t (mostOf w more b) a)
           ≡ pick t (moreAt w more (stepAt (a .out .header) (set ws w (a .out .worker)) w (a .nodes) (a .buckets))) (stored ws w a)
-      by-test true ih = ih ∙ ap (moreAt w more) (sym (next-stored a))
+      by-test true ih = ih ∙ ap (moreAt w more) (sym (next-stored a e))
       by-test false ih = refl
 
 -- a worker past the table is refused at once
@@ -175,22 +198,25 @@ module _ (h : Header) (ws : List Worker) (w : ℕ) (ns bs : List ℕ) (more : �
   unfolding stepsAt
   steps-past l = step-past h ws w ns bs l ∙ sym (more-at-stop w more (stepAt h ws w ns bs) (far-stops h ws w ns bs l))
 
-  steps-stored : stored ws w (stepsOne (turnAt h ws w) (length ws) more ns bs) ≡ stepsAt h ws w more ns bs
-  unfolding stepsAt stepsOne
-  steps-stored = by-place (decLt w (length ws))
-    where
-      a : After
-      a = stepOne (turnAt h ws w) (length ws) ns bs
+  -- fewer records than W end the steps at once; else one store at the end is enough
+  few-stops : going (tooFew h) ≡ false
+  unfolding tooFew
+  few-stops = both (λ (a : Answer). going a ≡ false) (headerDamaged h) refl refl
 
-      by-place : Dec (w < length ws) → stored ws w (moreOne w (length ws) more a) ≡ moreAt w more (stepAt h ws w ns bs)
-      by-place (yes l) = more-stored ws w l more a ∙ ap (moreAt w more) (step-stored h ws w ns bs)
-      by-place (no nl) =
-          let stop = far-stops h ws w ns bs (omega (arith, nl)) in
-          let stop-one : going (a .out .answer) ≡ false = ap (λ (l : Left). going (l .called .answer)) (step-stored h ws w ns bs) ∙ stop in
-          ap (stored ws w) (more-stop w (length ws) more a stop-one) ∙ step-stored h ws w ns bs ∙ sym (more-at-stop w more (stepAt h ws w ns bs) stop)
+  steps-few : ltb (length ws) (h .w) ≡ true → left (refused (tooFew h) h) ws ns bs ≡ stepsAt h ws w more ns bs
+  unfolding stepsAt stepAt
+  steps-few e =
+      let few : stepAt h ws w ns bs ≡ left (refused (tooFew h) h) ws ns bs = pick-true _ _ _ e in
+      sym few ∙ sym (more-at-stop w more (stepAt h ws w ns bs) (ap (λ (l : Left). going (l .called .answer)) few ∙ few-stops))
 
-  pub steps-in : (o : Outcome) (ms cs : List ℕ) → after o ms cs ≡ stepsOne (turnAt h ws w) (length ws) more ns bs → left (called o) (set ws w (o .worker)) ms cs ≡ stepsAt h ws w more ns bs
-  steps-in o ms cs e = ap (stored ws w) e ∙ steps-stored
+  steps-enough : w < length ws → ltb (length ws) (h .w) ≡ false → stored ws w (callOf (turnAt h ws w) (Steps more) ns bs) ≡ stepsAt h ws w more ns bs
+  unfolding stepsAt mostOf
+  steps-enough l e =
+      let a = stepOf (turnAt h ws w) ns bs in
+      let one : more + 1 ≡ suc more = omega arith in
+      rw one (ap (stored ws w) (pick-true _ _ _ refl))
+      ∙ more-stored ws w l more a (ap (ltb (length ws)) (step-width (turnAt h ws w) ns bs) ∙ e)
+      ∙ ap (moreAt w more) (sym (step-enough h ws w ns bs e))
 
 -- ---- a call is a start or steps
 module _ (h : Header) (ws : List Worker) (w : ℕ) (ns bs : List ℕ) where
@@ -198,9 +224,14 @@ module _ (h : Header) (ws : List Worker) (w : ℕ) (ns bs : List ℕ) where
   serve-past (Start kind key) = start-past h ws w ns bs kind key
   serve-past (Steps more) = steps-past h ws w ns bs more
 
-  pub serve-in : (c : Call) (o : Outcome) (ms cs : List ℕ) → after o ms cs ≡ serveOne (turnAt h ws w) (length ws) c ns bs → left (called o) (set ws w (o .worker)) ms cs ≡ serveAt h ws w c ns bs
-  serve-in (Start kind key) = start-in h ws w ns bs kind key
-  serve-in (Steps more) = steps-in h ws w ns bs more
+  call-in : (c : Call) → w < length ws → pick (ltb (length ws) (h .w)) (left (refused (tooFew h) h) ws ns bs) (stored ws w (callOf (turnAt h ws w) c ns bs)) ≡ serveAt h ws w c ns bs
+  unfolding startAt
+  call-in (Start kind key) l = refl
+  call-in (Steps more) l = by-bool (λ (z : Left). z ≡ stepsAt h ws w more ns bs) (ltb (length ws) (h .w)) (steps-few h ws w ns bs more) (steps-enough h ws w ns bs more l)
+
+  pub serve-in : (c : Call) → w < length ws → (o : Outcome) (ms cs : List ℕ) → after o ms cs ≡ serveOne (turnAt h ws w) (length ws) c ns bs → left (called o) (set ws w (o .worker)) ms cs ≡ serveAt h ws w c ns bs
+  unfolding serveOne
+  serve-in c l o ms cs e = ap (stored ws w) e ∙ stored-pick ws w (ltb (length ws) (h .w)) _ _ _ (as-it-was h ws w ns bs (tooFew h)) ∙ call-in c l
 
 -- filling keeps the length, and filling none changes nothing
 pub filled-length : (n : ℕ) (x : Worker) (ws : List Worker) → length (filled n x ws) ≡ length ws

@@ -1,3 +1,3 @@
 pub mod Laws
-mod Walk
+pub mod Walk
 pub mod Same

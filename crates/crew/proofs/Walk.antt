@@ -33,7 +33,6 @@ use Rattle.prepare.specs.declared.Limits.{Limits}
 use Rattle.crew.specs.declared.Call.{Call}
 use Rattle.crew.specs.declared.Called.{Called}
 use Rattle.crew.specs.declared.Served.{Served}
-use Rattle.crew.specs.declared.Bank.{Bank}
 use Rattle.record.proofs.Worker as tyW
 use Rattle.record.proofs.Worker.Laws as lawW
 use Rattle.header.proofs.Header as tyH
@@ -46,7 +45,6 @@ use Rattle.crew.proofs.Called as tyC
 use Rattle.crew.proofs.Called.Laws as lawC
 use Rattle.crew.proofs.Served as tyS
 use Rattle.crew.proofs.Served.Laws as lawS
-use Rattle.crew.proofs.Bank as tyB
 
 -- each type's row, and its machine value
 abbrev pub rowW : RattleType
@@ -132,36 +130,6 @@ module _ {M : Type 1} {𝓤 : URA M} {H : Heap 𝓤} {A : Atoms 𝓤} {K : Type 
       → Seq K W (‵ (row rowW fullShare ys b o) ∷ Γ) G
   takes-record t ys i b o l k = elem-out t rowW (Is rowW) (shows 𝓤 H A rowW) (LL.vals tyW.the-type lawW.the-laws) (LL.tells tyW.the-type lawW.the-laws) fullShare ys i idle b o l k
 
--- the array of 16 records, its MIR type, and its machine value
-abbrev pub rowA : RattleType
-rowA = Array rowW 16
-
-abbrev pub mirA : Ty
-mirA = tyArray lawW.mir 16
-
-abbrev pub machA : List Worker → Val
-machA ys = arrayVal (map (λ (y : Worker). machW y) ys)
-
-pub room16 : (n : ℕ) → n ≡ 16 → Room rowW n
-room16 n e = subst (Room rowW) (sym e) (lit< tt, lit< tt)
-
--- the elements of an array in a struct are the tuples of their fields: the same facts
-tuples : (ys : List Worker) (us : List Val) → shadow (each Worker (rowW .own) ys us) → shadow (each (tyW.the-field .row .Denot) (tyW.the-field .row .own) (map (tyW.the-field .into) ys) us)
-tuples [] [] p = p
-tuples [] (u ∷ us) p = p
-tuples (y ∷ ys) [] p = p
-tuples (y ∷ ys) (u ∷ us) p = (p .0, tuples ys us (p .1))
-
-abbrev pub bank : Called → List Worker → Bank
-bank r zs = record { called = r; workers = zs }
-
-abbrev pub machB : Called → List Worker → Val
-machB r zs = vstruct (vcons (machC r) (vcons (machA zs) vnil))
-
-pub is-bank : (r : Called) (vs : List Val) (zs : List Worker) → Is tyC.the-row r vs → Is rowA zs (machA zs ∷ []) → Is tyB.the-row (bank r zs) (machB r zs ∷ [])
-is-bank r vs zs is isz =
-    ((machC r ∷ [], (machA zs ∷ [], tt)), (refl, (of-called r vs is, ((isz .0, ((isz .1 .0 .0, length-map zs (tyW.the-field .into) ∙ isz .1 .0 .1), tuples zs (isz .0) (isz .1 .1))), tt))))
-
 module _ {M : Type 1} (𝓤 : URA M) (H : Heap 𝓤) (A : Atoms 𝓤) (W : Given 𝓤 H A) where
   -- each value has its type
   pub typedW : (x : Worker) → Is rowW x (machW x ∷ []) → Holds (hasTy lawW.mir (machW x)) × WT (machW x)
@@ -178,24 +146,3 @@ module _ {M : Type 1} (𝓤 : URA M) (H : Heap 𝓤) (A : Atoms 𝓤) (W : Given
 
   pub typedC : (x : Called) → Is tyC.the-row x (machC x ∷ []) → Holds (hasTy lawC.mir (machC x)) × WT (machC x)
   typedC x g = LL.lawful tyC.the-type lawC.the-laws 𝓤 H A W .typed x _ g .0
-
-  pub typedA : (zs : List Worker) → Is rowA zs (machA zs ∷ []) → Holds (hasTy mirA (machA zs)) × WT (machA zs)
-  typedA zs g = array-lawful 𝓤 H A W rowW (LL.lawful tyW.the-type lawW.the-laws 𝓤 H A W) 16 .typed zs _ g .0
-
-  -- an array in a slot is an array in memory, and back
-  pub into-part : (ys : List Worker) (l : ℕ) → ent 𝓤 (sep 𝓤 (sem 𝓤 H A (fat fullShare mirA l 0 (machA ys))) (sem 𝓤 H A (rowA .own ys (machA ys ∷ [])))) (sem 𝓤 H A (partAt rowA fullShare ys l 0))
-  unfolding partOf
-  into-part ys l =
-      qed W (‵ (fat fullShare mirA l 0 (machA ys)) ∷ ‵ (rowA .own ys (machA ys ∷ [])) ∷ []) ∵ use1 W (‵ (cellAt fullShare (rowA .mir) (machA ys ∷ []) l 0)) (W .laws .at-raw fullShare mirA l 0 (machA ys)) $
-      fjoin ! $ fpack ! (List Val) (λ us. fsep (cellAt fullShare (rowA .mir) us l 0) (rowA .own ys us)) (machA ys ∷ []) $ done !
-
-  pub from-part : (ys : List Worker) (l : ℕ) → ent 𝓤 (sem 𝓤 H A (partAt rowA fullShare ys l 0)) (sep 𝓤 (sem 𝓤 H A (rowA .own ys (machA ys ∷ []))) (sem 𝓤 H A (fat fullShare mirA l 0 (machA ys))))
-  unfolding partOf
-  from-part ys l =
-      qed W (‵ (partAt rowA fullShare ys l 0) ∷ []) ∵ fpick ! (λ vs. fsplit ! $ move ! (1 ∷ []) $ peeks ! rowA (Is rowA) (shows 𝓤 H A rowA) ys vs (λ p.
-      rewrite ! 0 (λ (us : List Val). ‵ (rowA .own ys us)) (array-tells rowW (LL.vals tyW.the-type lawW.the-laws) (LL.tells tyW.the-type lawW.the-laws) 16 ys vs p) refl $
-      rewrite ! 1 (λ (us : List Val). ‵ (cellAt fullShare (rowA .mir) us l 0)) (array-tells rowW (LL.vals tyW.the-type lawW.the-laws) (LL.tells tyW.the-type lawW.the-laws) 16 ys vs p) refl $
-      move ! (1 ∷ []) $ use1 W (‵ (fat fullShare mirA l 0 (machA ys))) (W .laws .raw-at fullShare mirA l 0 (machA ys)) $ move ! (1 ∷ 0 ∷ []) $ done !))
-
-  pub makes-array : (ys : List Worker) (vs : List Val) → Is rowA ys vs → ent 𝓤 (emp 𝓤) (sem 𝓤 H A (rowA .own ys vs))
-  makes-array = array-makes 𝓤 H A W rowW (LL.makes tyW.the-type lawW.the-plain 𝓤 H A) 16

@@ -1,5 +1,5 @@
 -- The parts by value: what is done with one record, a number of records and the lent tables of words.
-use Prim.Native.Nat.{ℕ, zero, suc}
+use Prim.Native.Nat.{ℕ, zero, suc, _+_}
 use mathlib.Core.Bool.{_||_}
 use mathlib.Core.List.{List}
 use lib.Dec.{ltb, eqb}
@@ -7,7 +7,7 @@ use lib.ListN.{length}
 use Rattle.choice.specs.Choice.{pick}
 use Rattle.names.specs.Names.{numberOf}
 use Rattle.names.specs.declared.Answer.{Answer}
-use Rattle.names.specs.declared.Answer.the-variants.{Short, Damaged, NoWorker}
+use Rattle.names.specs.declared.Answer.the-variants.{Going, Short, Damaged, NoWorker}
 use Rattle.header.specs.declared.Header.{Header}
 use Rattle.header.specs.Header.{headerDamaged, isShort}
 use Rattle.record.specs.Worker.{idle}
@@ -15,7 +15,7 @@ use Rattle.prepare.specs.declared.Limits.{Limits}
 use Rattle.writes.specs.declared.Outcome.{Outcome}
 use Rattle.prepare.specs.declared.Prepared.{Prepared}
 use Rattle.register.specs.declared.Turn.{Turn}
-use Rattle.writes.specs.Carry.{After, after}
+use Rattle.writes.specs.Carry.{After, after, handedBack}
 use Rattle.register.specs.Step.{refusedWith}
 use Rattle.prepare.specs.Prepare.{prepared}
 use Rattle.register.specs.Calls.{startOf, stepOf}
@@ -36,25 +36,19 @@ apart o = record { called = called o; worker = o .worker }
 abbrev pub outcome : Served → Outcome
 outcome s = record { answer = s .called .answer; steps = s .called .steps; header = s .called .header; worker = s .worker }
 
--- one worker's call where there are len records
-unfoldable pub stepOne : Turn → ℕ → List ℕ → List ℕ → After
-stepOne t len ns bs = pick (ltb len (t .header .w)) (after (refusedWith (tooFew (t .header)) t) ns bs) (stepOf t ns bs)
+-- up to so many steps of worker w with its record in hand, ending after the first whose answer isn't 0
+unfoldable pub mostOf : ℕ → ℕ → After → After
+mostOf w zero a = a
+mostOf w (suc most) a = pick (going (a .out .answer)) (mostOf w most (stepOf (turn (a .out .header) w (a .out .worker)) (a .nodes) (a .buckets))) a
 
-unfoldable pub startOne : Turn → ℕ → ℕ → ℕ → List ℕ → List ℕ → After
-startOne t len kind key ns bs = pick (ltb len (t .header .w)) (after (refusedWith (tooFew (t .header)) t) ns bs) (after (startOf t kind key (length ns) (length bs)) ns bs)
+-- the call with the record in hand: of steps there is one at least
+abbrev pub callOf : Turn → Call → List ℕ → List ℕ → After
+callOf t (Start kind key) ns bs = after (startOf t kind key (length ns) (length bs)) ns bs
+callOf t (Steps more) ns bs = mostOf (t .number) (more + 1) (after (handedBack Going (t .header) (t .worker)) ns bs)
 
--- several steps with the record in hand
-unfoldable pub moreOne : ℕ → ℕ → ℕ → After → After
-moreOne w len zero a = a
-moreOne w len (suc more) a = pick (going (a .out .answer)) (moreOne w len more (stepOne (turn (a .out .header) w (a .out .worker)) len (a .nodes) (a .buckets))) a
-
-unfoldable pub stepsOne : Turn → ℕ → ℕ → List ℕ → List ℕ → After
-stepsOne t len more ns bs = moreOne (t .number) len more (stepOne t len ns bs)
-
--- the call with the record in hand
-abbrev pub serveOne : Turn → ℕ → Call → List ℕ → List ℕ → After
-serveOne t len (Start kind key) ns bs = startOne t len kind key ns bs
-serveOne t len (Steps more) ns bs = stepsOne t len more ns bs
+-- where there are len records
+unfoldable pub serveOne : Turn → ℕ → Call → List ℕ → List ℕ → After
+serveOne t len c ns bs = pick (ltb len (t .header .w)) (after (refusedWith (tooFew (t .header)) t) ns bs) (callOf t c ns bs)
 
 -- a prepared register asks for W idle records, a refused one for none
 abbrev pub wants : ℕ → Prepared → Ready

@@ -2,9 +2,10 @@
 ghost use mathlib.Core.Path.{_≡_};
 ghost use Prim.Native.Nat.{_≤_};
 ghost use lib.ListN.{length};
-ghost use Rattle.writes.specs.Carry.{after};
-ghost use Rattle.crew.specs.Crew.{left, turn, refused, tooFew, filled, tooFewFor, serveAt, prepareAt};
-ghost use Rattle.crew.specs.One.{pastOf, apart, outcome, stepOne, stepsOne, startOne, serveOne, wants, wanted, prepareOne};
+ghost use Rattle.names.specs.declared.Answer.the-variants.{Going};
+ghost use Rattle.writes.specs.Carry.{after, handedBack};
+ghost use Rattle.crew.specs.Crew.{left, turn, refused, going, tooFew, filled, tooFewFor, serveAt, prepareAt};
+ghost use Rattle.crew.specs.One.{pastOf, apart, outcome, mostOf, serveOne, wants, wanted, prepareOne};
 use header::Header;
 use names::Answer;
 use names::place;
@@ -40,12 +41,6 @@ pub struct Ready {
     pub called: Called,
     pub count: usize,
     pub worker: Worker,
-}
-
-// The table by value, with what the call hands back.
-pub struct Bank {
-    pub called: Called,
-    pub workers: [Worker; 16],
 }
 
 // A refused call hands the header back as it came.
@@ -97,85 +92,47 @@ fn apart(out: Outcome) -> Served
     Served { called, worker }
 }
 
-// One step with the record in hand, where there are `len` records.
-fn step_one(
-    worker: Worker,
-    len: usize,
-    w: u32,
-    header: Header,
-    nodes: &mut [u32],
-    buckets: &mut [u32],
-) -> Served
-    ensures { λ r. ⌜ after (outcome r) (now (nodes .exit)) (now (buckets .exit)) ≡ stepOne (turn header w worker) len (now (nodes .entry)) (now (buckets .entry)) ⌝ }
+// The answer is 0, going on.
+fn goes_on(out: Outcome) -> bool
+    ensures { λ r. ⌜ r ≡ going (out .answer) ⌝ }
 {
-    if (len as u64) < (header.w as u64) {
-        let answer = too_few(header);
-        let called = refused(answer, header);
-        return Served { called, worker };
-    }
-    let turn = Turn {
-        number: w,
-        header,
-        worker,
-    };
-    let out = turn.step(nodes, buckets);
-    apart(out)
+    let answer = out.answer;
+    answer.number() == 0
 }
 
-// A start with the record in hand, where there are `len` records.
-fn start_one(
-    worker: Worker,
-    len: usize,
-    w: u32,
-    header: Header,
-    kind: u32,
-    key: u32,
-    nodes: &mut [u32],
-    buckets: &mut [u32],
-) -> Served
-    ensures { λ r. ⌜ after (outcome r) (now (nodes .exit)) (now (buckets .exit)) ≡ startOne (turn header w worker) len kind key (now (nodes .entry)) (now (buckets .entry)) ⌝ }
-{
-    if (len as u64) < (header.w as u64) {
-        let answer = too_few(header);
-        let called = refused(answer, header);
-        return Served { called, worker };
-    }
-    let turn = Turn {
-        number: w,
-        header,
-        worker,
-    };
-    let out = turn.start(kind, key, &nodes[..], &buckets[..]);
-    apart(out)
-}
-
-// A step with the record in hand and up to so many more, ending after the first whose answer isn't 0.
+// Up to so many steps with the record in hand, ending after the first whose answer isn't 0.
 fn steps_one(
     worker: Worker,
-    len: usize,
     w: u32,
     header: Header,
-    more: u32,
+    most: u64,
     nodes: &mut [u32],
     buckets: &mut [u32],
-) -> Served
-    ensures { λ r. ⌜ after (outcome r) (now (nodes .exit)) (now (buckets .exit)) ≡ stepsOne (turn header w worker) len more (now (nodes .entry)) (now (buckets .entry)) ⌝ }
+) -> Outcome
+    ensures { λ r. ⌜ after r (now (nodes .exit)) (now (buckets .exit)) ≡ mostOf w most (after (handedBack Going header worker) (now (nodes .entry)) (now (buckets .entry))) ⌝ }
 {
-    let mut out = step_one(worker, len, w, header, nodes, buckets);
-    let mut left = more;
-    while 0 < left {
-        let called = out.called;
-        let answer = called.answer;
-        if answer.number() != 0 {
-            return out;
-        }
-        out = step_one(out.worker, len, w, called.header, nodes, buckets);
+    let mut out = Outcome {
+        answer: Answer::Going,
+        steps: 0,
+        header,
+        worker,
+    };
+    let mut left = most;
+    while (0 < left) & goes_on(out) {
+        let header = out.header;
+        let worker = out.worker;
+        let turn = Turn {
+            number: w,
+            header,
+            worker,
+        };
+        out = turn.step(nodes, buckets);
         left -= 1;
     }
     out
 }
 
-// The call with the record in hand.
+// The call with the record in hand, where there are `len` records.
 fn serve_one(
     worker: Worker,
     len: usize,
@@ -187,9 +144,23 @@ fn serve_one(
 ) -> Served
     ensures { λ r. ⌜ after (outcome r) (now (nodes .exit)) (now (buckets .exit)) ≡ serveOne (turn header w worker) len call (now (nodes .entry)) (now (buckets .entry)) ⌝ }
 {
+    if (len as u64) < (header.w as u64) {
+        let called = refused(too_few(header), header);
+        return Served { called, worker };
+    }
     match call {
-        Call::Start { kind, key } => start_one(worker, len, w, header, kind, key, nodes, buckets),
-        Call::Steps { more } => steps_one(worker, len, w, header, more, nodes, buckets),
+        Call::Start { kind, key } => {
+            let turn = Turn {
+                number: w,
+                header,
+                worker,
+            };
+            apart(turn.start(kind, key, &nodes[..], &buckets[..]))
+        }
+        Call::Steps { more } => {
+            let most = (more as u64) + 1;
+            apart(steps_one(worker, w, header, most, nodes, buckets))
+        }
     }
 }
 
@@ -303,43 +274,4 @@ pub fn prepare(
     let ready = prepare_one(limits, len, header, nodes, buckets);
     fill(workers, ready.count, ready.worker);
     ready.called
-}
-
-// The table by value, lent for a preparing and taken back.
-pub fn prepare_bank(
-    workers: [Worker; 16],
-    limits: Limits,
-    header: Header,
-    nodes: &mut [u32],
-    buckets: &mut [u32],
-) -> Bank
-    ensures { λ r. ⌜ left (r .called) (r .workers) (now (nodes .exit)) (now (buckets .exit)) ≡ prepareAt limits header workers (now (nodes .entry)) (now (buckets .entry)) ⌝ }
-{
-    let mut prepared = workers;
-    let called = prepare(&mut prepared, limits, header, nodes, buckets);
-    let left = prepared;
-    Bank {
-        called,
-        workers: left,
-    }
-}
-
-// The table by value, lent for a call and taken back.
-pub fn serve_bank(
-    workers: [Worker; 16],
-    w: u32,
-    header: Header,
-    call: Call,
-    nodes: &mut [u32],
-    buckets: &mut [u32],
-) -> Bank
-    ensures { λ r. ⌜ left (r .called) (r .workers) (now (nodes .exit)) (now (buckets .exit)) ≡ serveAt header workers w call (now (nodes .entry)) (now (buckets .entry)) ⌝ }
-{
-    let mut served = workers;
-    let called = serve(&mut served, w, header, call, nodes, buckets);
-    let left = served;
-    Bank {
-        called,
-        workers: left,
-    }
 }

@@ -24,10 +24,6 @@ Leads out at text out₀ at₀ whole = (exit : List ℕ) (place : ℕ) → Laid 
 abbrev pub goes : List ℕ → ℕ → ℕ → Bool
 goes input turns offset = ltb 0 turns && isPlayed (kindOf (entryAt input offset))
 
-pub turns-left : (turns : ℕ) (b : Bool) → ltb 0 turns && b ≡ true → 0 < turns
-turns-left zero b e = absurd (false≢true e)
-turns-left (suc turns) b e = omega arith
-
 -- the call of the record at an offset
 abbrev pub nextCall : List ℕ → ℕ → Left → Left
 nextCall input offset l = let kind = kindOf (entryAt input offset) in called kind (workerOf (bodyAt input offset)) (numberIn kind (bodyAt input offset)) l

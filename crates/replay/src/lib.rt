@@ -9,7 +9,7 @@ ghost use Rattle.script.specs.Script.{entryAt, bodyAt};
 ghost use Rattle.text.specs.Text.{Laid};
 ghost use Rattle.replay.specs.Play.{bucketsOf, limitsOf, blank, prepared, numberIn, called, operationOf, callLine};
 ghost use Rattle.replay.specs.Replay.{kindOf, nextOf, faultOf, standOf, stopLine, isPlayed, lastLine, closed, followed, firstLine, begun, printed};
-use crew::Bank;
+use bank::Bank;
 use crew::Call;
 use crew::Called;
 use header::Header;
@@ -87,7 +87,7 @@ fn ready(body: &[u8], nodes: &mut [u32], buckets: &mut [u32]) -> Bank
 {
     let limits = limits_of(body);
     let idle = Worker::fresh(place::IDLE, 0, 0);
-    crew::prepare_bank([idle; 16], limits, blank(), nodes, buckets)
+    bank::prepare([idle; 16], limits, blank(), nodes, buckets)
 }
 
 // The number in a body: the key of a start, the one step of 04, the n steps of 05.
@@ -124,13 +124,13 @@ fn call(bank: Bank, kind: u32, w: u32, number: u32, nodes: &mut [u32], buckets: 
     let workers = bank.workers;
     if kind <= 3 {
         let start = Call::Start { kind, key: number };
-        return crew::serve_bank(workers, w, header, start, nodes, buckets);
+        return bank::serve(workers, w, header, start, nodes, buckets);
     }
     if number == 0 {
         return stay(workers, header);
     }
     let more = number - 1;
-    crew::serve_bank(workers, w, header, Call::Steps { more }, nodes, buckets)
+    bank::serve(workers, w, header, Call::Steps { more }, nodes, buckets)
 }
 
 // Worker w's record; past the table it is idle.

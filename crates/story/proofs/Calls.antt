@@ -25,8 +25,6 @@ use Rattle.record.specs.declared.Worker.{Worker}
 use Rattle.record.specs.Worker.{idle, begun, heldKey, heldDummy}
 use Rattle.faults.specs.Faults.{workerDamaged}
 use Rattle.moves.specs.declared.Seen.{Seen}
-use Rattle.acts.specs.declared.Effect.{Effect}
-use Rattle.acts.specs.declared.Effect.the-variants.{Nothing, Take, Free, Aim, Place, Mark, Unlink, Store, Count, Size}
 use Rattle.acts.specs.declared.Move.{Move}
 use Rattle.acts.specs.declared.Move.the-variants.{Damaged, Going, Ended}
 use Rattle.moves.specs.Moves.{decidedAt, decided}
@@ -38,6 +36,7 @@ use Rattle.writes.specs.Carry.{after}
 use Rattle.register.specs.Step.{refusedWith, wordAt, wordFor, splitFor, seenBy, carried}
 use Rattle.header.specs.Header.{isShort}
 use Rattle.register.specs.Calls.{startVerdict, startedBy, startOf, stepVerdict, steppedBy, stepOf}
+use Rattle.crew.proofs.Laws.{sized}
 use Rattle.crew.specs.Crew.{Left, turn, turnAt, stored, startAt, stepAt}
 use Rattle.promises.proofs.Shape.{Final, effect-at}
 use Rattle.register.specs.Chain.{key, link}
@@ -190,18 +189,6 @@ turns : (x : Worker) (a b a′ b′ : Bool) (ev : Event) → a′ ≡ a → b′
 turns x a b a′ b′ nothing p q t = q ∙ t ∙ sym p
 turns x a b a′ b′ (added k) p q t = (p ∙ t .0, q ∙ t .1, t .2, t .3)
 turns x a b a′ b′ (removed k) p q t = (p ∙ t .0, q ∙ t .1, t .2, t .3)
-
-sized : (e : Effect) (h : Header) → (headerAfter e h .m ≡ h .m) × (headerAfter e h .k ≡ h .k) × (headerAfter e h .w ≡ h .w) × (headerAfter e h .busy ≡ h .busy)
-sized Nothing h = (refl, refl, refl, refl)
-sized (Take n split) h = (refl, refl, refl, refl)
-sized (Free n) h = (refl, refl, refl, refl)
-sized (Aim n next) h = (refl, refl, refl, refl)
-sized (Place n next prev) h = (refl, refl, refl, refl)
-sized (Mark n next) h = (refl, refl, refl, refl)
-sized (Unlink prev next n busy) h = (refl, refl, refl, refl)
-sized (Store b n) h = (refl, refl, refl, refl)
-sized (Count v) h = (refl, refl, refl, refl)
-sized (Size v) h = (refl, refl, refl, refl)
 
 module _ (s : State) (Ps Qs : Pasts) (c : List ℕ) (inv : InvOf s Ps c) where
   abbrev h : Header

@@ -14,10 +14,10 @@ use Rattle.crew.specs.declared.Call.{Call as Asked}
 use Rattle.crew.specs.declared.Call.the-variants.{Start, Steps}
 use Rattle.crew.specs.declared.Called.{Called}
 use Rattle.crew.specs.Crew.{Left, left as leaves, moreAt, stepsAt, serveAt}
-use Rattle.crew.proofs.prepare_bank.Reads as prepare-bank
-use Rattle.crew.proofs.prepare_bank.Kinds as prepare-bank-kinds
-use Rattle.crew.proofs.serve_bank.Reads as serve-bank
-use Rattle.crew.proofs.serve_bank.Kinds as serve-bank-kinds
+use Rattle.bank.proofs.prepare.Reads as prepare
+use Rattle.bank.proofs.prepare.Kinds as prepare-kinds
+use Rattle.bank.proofs.serve.Reads as serve
+use Rattle.bank.proofs.serve.Kinds as serve-kinds
 use Rattle.story.specs.Run.{State, stateOf, Call, start, step, left, prepares, answer, state}
 
 -- the state that a call leaves, of what it handed back and the tables at exit
@@ -41,8 +41,8 @@ abbrev pub IsFirst : Limits → State → State → Type 0
 IsFirst l s t = (fresh : prepares l s .called .answer ≡ Going) × ((call : ℕ → Call) → t ≡ state (record { limits = l; lent = s; fresh = fresh; call = call }) 0)
 
 -- a preparing that met its contract and answered Going leaves the first state of a run
-pub prepare-is-first : (κs : Lfts 2) (a : Dens κs prepare-bank-kinds.ps) (x : resT prepare-bank-kinds.r κs .Denot) (e : AtExit (endedOf 2 prepare-bank-kinds.ps prepare-bank-kinds.r) κs)
-    → prepare-bank.Post κs a x e → x .called .answer ≡ Going
+pub prepare-is-first : (κs : Lfts 2) (a : Dens κs prepare-kinds.ps) (x : resT prepare-kinds.r κs .Denot) (e : AtExit (endedOf 2 prepare-kinds.ps prepare-kinds.r) κs)
+    → prepare.Post κs a x e → x .called .answer ≡ Going
     → IsFirst (a .1 .0) (lent (a .1 .1 .0) (a .0) (now (a .1 .1 .1 .0)) (now (a .1 .1 .1 .1 .0))) (handed (x .called) (x .workers) (now (e .1 .1 .1 .0)) (now (e .1 .1 .1 .1 .0)))
 prepare-is-first κs a x e p g = (sym (ap (λ (l : Left). l .called .answer) p) ∙ g, λ call. ap stateOf p)
 
@@ -62,8 +62,8 @@ serve-leaves s (start w kind key) = refl
 serve-leaves s (step w) = refl
 
 -- a call that met its contract, a start or a step
-pub serve-is-next : (κs : Lfts 2) (a : Dens κs serve-bank-kinds.ps) (x : resT serve-bank-kinds.r κs .Denot) (e : AtExit (endedOf 2 serve-bank-kinds.ps serve-bank-kinds.r) κs) (c : Call)
-    → a .1 .0 ≡ served c → a .1 .1 .1 .0 ≡ asked c → serve-bank.Post κs a x e
+pub serve-is-next : (κs : Lfts 2) (a : Dens κs serve-kinds.ps) (x : resT serve-kinds.r κs .Denot) (e : AtExit (endedOf 2 serve-kinds.ps serve-kinds.r) κs) (c : Call)
+    → a .1 .0 ≡ served c → a .1 .1 .1 .0 ≡ asked c → serve.Post κs a x e
     → IsNext (lent (a .1 .1 .0) (a .0) (now (a .1 .1 .1 .1 .0)) (now (a .1 .1 .1 .1 .1 .0))) c (x .called) (x .workers) (now (e .1 .1 .1 .1 .0)) (now (e .1 .1 .1 .1 .1 .0))
 serve-is-next κs a x e c who what p =
     is-next _ c (x .called) (x .workers) (now (e .1 .1 .1 .1 .0)) (now (e .1 .1 .1 .1 .1 .0))

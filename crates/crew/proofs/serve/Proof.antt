@@ -197,7 +197,7 @@ module _ {M : Type 1} (𝓤 : URA M) (H : Heap 𝓤) (A : Atoms 𝓤) (W : Given
         land ! (from ! (stop !)) (init ! 33 refl (LL.lawful tyS.the-type lawS.the-laws 𝓤 H A W .typed r _ is .0)) $ rewrite ! 33 (λ (u : Val). ‵ (fat fullShare lawS.mir l₉ 0 u)) (ap only (LL.tells tyS.the-type lawS.the-laws r _ is)) refl $
         -- the record that it handed back is stored in the place of w's, and the borrow is closed at the list with that record in it
         assigns ! (bin ! (load ! (from ! (stop !)) (look ! 35 refl)) (lit ! tt) (record { fits = fits-at w (length ys) (nleb→lt (length ys) w within) gn })) (from ! (stop !)) (store ! 25 refl (tt, record { fits = fits-at w (length ys) (nleb→lt (length ys) w within) gn })) $ assigns ! (bin ! (load ! (from ! (fld ! refl (stop !))) (look-in ! 49 (sub ! 0 refl (whole !)))) (load ! (from ! (stop !)) (look ! 25 refl)) tt) (from ! (stop !)) (init ! 11 refl (tt, tt)) $ rewrite ! 11 (λ (p : ℕ). ‵ (fat fullShare tyPtr l₂₀ 0 (vptr b p))) (sym (place-is 60 o w)) refl $ assigns ! (of-opd ! (load ! (from ! (fld ! refl (stop !))) (look-in ! 33 (sub ! 1 refl (whole !))))) (from ! (hop ! (look ! 11 refl) (stop !))) (store-raw ! 5 refl (typedW 𝓤 H A W (r .worker) (record-of r _ is))) $ assigns ! (of-opd ! (load ! (from ! (fld ! refl (stop !))) (look-in ! 33 (sub ! 0 refl (whole !))))) (from ! (stop !)) (init ! 51 refl (typedC 𝓤 H A W (r .called) (called-of r _ is))) $ owned ! tyW.the-row (Is tyW.the-row) (LL.makes tyW.the-type lawW.the-plain 𝓤 H A) (r .worker) _ (record-of r _ is) $ move ! (6 ∷ 0 ∷ 8 ∷ 9 ∷ 10 ∷ 11 ∷ []) $ elem-put ! rowW fullShare ys w (r .worker) (machW (r .worker) ∷ []) b o (nleb→lt (length ys) w within) $ closes-slice ! tt rowW ys (set ys w (r .worker)) (length-set ys w (r .worker)) b o $
-        returns ! (look ! 49 refl) $ move ! (49 ∷ 50 ∷ 47 ∷ 48 ∷ 45 ∷ 46 ∷ 43 ∷ 44 ∷ 41 ∷ 42 ∷ 39 ∷ 40 ∷ 37 ∷ 38 ∷ 35 ∷ 36 ∷ 33 ∷ 34 ∷ 31 ∷ 32 ∷ 29 ∷ 30 ∷ 27 ∷ 28 ∷ 25 ∷ 26 ∷ 23 ∷ 24 ∷ 21 ∷ 22 ∷ 19 ∷ 20 ∷ 17 ∷ 18 ∷ 15 ∷ 16 ∷ 13 ∷ 14 ∷ 11 ∷ 12 ∷ 9 ∷ 10 ∷ []) $ leaves ! (full _ _ _ ∷ full _ _ _ ∷ full _ _ _ ∷ full _ _ _ ∷ full _ _ _ ∷ full _ _ _ ∷ full _ _ _ ∷ full _ _ _ ∷ full _ _ _ ∷ full _ _ _ ∷ full _ _ _ ∷ room _ _ ∷ room _ _ ∷ full _ _ _ ∷ full _ _ _ ∷ full _ _ _ ∷ full _ _ _ ∷ full _ _ _ ∷ full _ _ _ ∷ full _ _ _ ∷ full _ _ _ ∷ []) $ keep ! (0 ∷ 1 ∷ 2 ∷ 4 ∷ 7 ∷ 5 ∷ []) $ by ! (stored-with r (zs .1 .1 .1 .1 .1 .0) (zs .1 .1 .1 .1 .1 .1 .0) (called-of r _ is) (serve-in header ys w n₁ n₂ call (outcome r) (zs .1 .1 .1 .1 .1 .0) (zs .1 .1 .1 .1 .1 .1 .0) e) e₁ e₂)))))))))))))))))))))))))))))))
+        returns ! (look ! 49 refl) $ move ! (49 ∷ 50 ∷ 47 ∷ 48 ∷ 45 ∷ 46 ∷ 43 ∷ 44 ∷ 41 ∷ 42 ∷ 39 ∷ 40 ∷ 37 ∷ 38 ∷ 35 ∷ 36 ∷ 33 ∷ 34 ∷ 31 ∷ 32 ∷ 29 ∷ 30 ∷ 27 ∷ 28 ∷ 25 ∷ 26 ∷ 23 ∷ 24 ∷ 21 ∷ 22 ∷ 19 ∷ 20 ∷ 17 ∷ 18 ∷ 15 ∷ 16 ∷ 13 ∷ 14 ∷ 11 ∷ 12 ∷ 9 ∷ 10 ∷ []) $ leaves ! (full _ _ _ ∷ full _ _ _ ∷ full _ _ _ ∷ full _ _ _ ∷ full _ _ _ ∷ full _ _ _ ∷ full _ _ _ ∷ full _ _ _ ∷ full _ _ _ ∷ full _ _ _ ∷ full _ _ _ ∷ room _ _ ∷ room _ _ ∷ full _ _ _ ∷ full _ _ _ ∷ full _ _ _ ∷ full _ _ _ ∷ full _ _ _ ∷ full _ _ _ ∷ full _ _ _ ∷ full _ _ _ ∷ []) $ keep ! (0 ∷ 1 ∷ 2 ∷ 4 ∷ 7 ∷ 5 ∷ []) $ by ! (stored-with r (zs .1 .1 .1 .1 .1 .0) (zs .1 .1 .1 .1 .1 .1 .0) (called-of r _ is) (serve-in header ys w n₁ n₂ call (nleb→lt (length ys) w within) (outcome r) (zs .1 .1 .1 .1 .1 .0) (zs .1 .1 .1 .1 .1 .1 .0) e) e₁ e₂)))))))))))))))))))))))))))))))
 
 module _ {M : Type 1} (𝓤 : URA M) (H : Heap 𝓤) (A : Atoms 𝓤) (W : Given 𝓤 H A) (mem : Memory → SProp 𝓤) (run : Routine → Fun 𝓤) where
   walks : (C : Calls 𝓤 H) (Λ : Loops 𝓤 H) → FmC 𝓤 H (W .laws) C → Triple 𝓤 (C #past) (Past 𝓤 H A mem run) → Triple 𝓤 (C #one) (One 𝓤 H A mem run) → Walks 𝓤 H A it.ended stayed (WpFn 𝓤 H C Λ code.function) (it.clauses 𝓤 H A mem run)

@@ -8,8 +8,8 @@ use Rattle.choice.proofs.Auto.{then-is, else-is}
 use Rattle.replay.proofs.call.Statement.{statement}
 use Rattle.replay.proofs.call.Tie as tie
 
-serve-bank-requires : tie.Need-serve-bank-requires
-serve-bank-requires c κs = tt
+serve-requires : tie.Need-serve-requires
+serve-requires c κs = tt
 
 same-length : tie.Need-same-length
 same-length c = search needs
@@ -19,7 +19,7 @@ same-length-2 c = search needs
 
 returns : tie.Need-returns
 unfolding called
-returns c = then-is _ _ _ _ (le-leb _ _ (c .before .before .before .before .before .before .before .if1 .taken)) (c .before .before .before .before .serve-bank .ensures)
+returns c = then-is _ _ _ _ (le-leb _ _ (c .before .before .before .before .before .before .before .if1 .taken)) (c .before .before .before .before .serve .ensures)
 
 stay-requires : tie.Need-stay-requires
 stay-requires c κs = tt
@@ -33,8 +33,8 @@ returns-2 c =
 sub-more : tie.Need-sub-more
 sub-more c = search needs
 
-serve-bank-requires-2 : tie.Need-serve-bank-requires-2
-serve-bank-requires-2 c κs = tt
+serve-requires-2 : tie.Need-serve-requires-2
+serve-requires-2 c κs = tt
 
 same-length-3 : tie.Need-same-length-3
 same-length-3 c = search needs
@@ -46,20 +46,20 @@ returns-3 : tie.Need-returns-3
 unfolding called
 returns-3 c =
     else-is _ _ _ _ (lt-leb _ _ (c .before .before .before .before .before .before .before .before .if1 .left))
-    (else-is _ _ _ _ (ne-eqb _ _ (c .before .before .before .before .before .before .before .if2 .left)) (c .before .before .before .before .serve-bank2 .ensures))
+    (else-is _ _ _ _ (ne-eqb _ _ (c .before .before .before .before .before .before .before .if2 .left)) (c .before .before .before .before .serve2 .ensures))
 
 pub call-spec : {M : Type 1} → statement M
 call-spec =
     tie.close
     (tie.spec
-    serve-bank-requires
+    serve-requires
     same-length
     same-length-2
     returns
     stay-requires
     returns-2
     sub-more
-    serve-bank-requires-2
+    serve-requires-2
     same-length-3
     same-length-4
     returns-3)

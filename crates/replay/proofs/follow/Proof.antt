@@ -4,7 +4,8 @@ use Prim.Native.Nat.{_-_}
 use mathlib.Core.Path.{_≡_, refl, sym, _∙_}
 use native.Mathlib.Omega.{arith}
 use lib.ListN.{length}
-use Rattle.replay.proofs.Laws.{Leads, turns-left, followed-stop, leads-on}
+use Rattle.crew.proofs.Laws.{turns-left}
+use Rattle.replay.proofs.Laws.{Leads, followed-stop, leads-on}
 use Rattle.replay.specs.Replay.{followed}
 use Rattle.text.proofs.Laying.{laid-as}
 use Rattle.crew.specs.Crew.{left}

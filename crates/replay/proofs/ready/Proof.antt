@@ -15,8 +15,8 @@ fresh-requires c κs = tt
 blank-requires : tie.Need-blank-requires
 blank-requires c κs = tt
 
-prepare-bank-requires : tie.Need-prepare-bank-requires
-prepare-bank-requires c κs = tt
+prepare-requires : tie.Need-prepare-requires
+prepare-requires c κs = tt
 
 same-length : tie.Need-same-length
 same-length c = search needs
@@ -26,7 +26,7 @@ same-length-2 c = search needs
 
 returns : tie.Need-returns
 unfolding prepared
-returns c = rw (← (c .before .before .before .before .before .before .before .before .before .limits-of .ensures), ← (c .before .before .before .before .before .before .before .before .fresh .ensures), ← (c .before .before .before .before .before .before .before .blank .ensures)) (c .before .before .before .before .prepare-bank .ensures)
+returns c = rw (← (c .before .before .before .before .before .before .before .before .before .limits-of .ensures), ← (c .before .before .before .before .before .before .before .before .fresh .ensures), ← (c .before .before .before .before .before .before .before .blank .ensures)) (c .before .before .before .before .prepare .ensures)
 
 pub ready-spec : {M : Type 1} → statement M
 ready-spec =
@@ -35,7 +35,7 @@ ready-spec =
     limits-of-requires
     fresh-requires
     blank-requires
-    prepare-bank-requires
+    prepare-requires
     same-length
     same-length-2
     returns)

@@ -48,29 +48,30 @@ use denote.Triple.Walked.{says, Stays, gave-slice, stay-none, walkOf, Walks, end
 use denote.Exit.{yes}
 use Rattle.header.specs.declared.Header.{Header}
 use Rattle.record.specs.declared.Worker.{Worker}
 use Rattle.crew.specs.declared.Called.{Called}
 use Rattle.crew.specs.Crew.{left, serveAt}
-use Rattle.crew.proofs.Walk.{full, leaves, rowW, machH, machK, rowA, mirA, machA, room16, bank, machB, is-bank, typedH, typedK, typedA, into-part, from-part, makes-array}
+use Rattle.crew.proofs.Walk.{full, leaves, rowW, machH, machK, typedH, typedK}
+use Rattle.bank.proofs.Walk.{rowA, mirA, machA, room16, bank, machB, is-bank, typedA, into-part, from-part, makes-array}
 use Rattle.crew.specs.declared.Call.{Call}
 use denote.Enum.Laws as EL
 use Rattle.crew.proofs.Call as tyK
 use Rattle.crew.proofs.Call.Laws as lawK
 use Rattle.record.proofs.Worker as tyW
 use Rattle.record.proofs.Worker.Laws as lawW
 use Rattle.header.proofs.Header as tyH
 use Rattle.header.proofs.Header.Laws as lawH
 use Rattle.crew.proofs.Called as tyC
 use Rattle.crew.proofs.Called.Laws as lawC
-use Rattle.crew.proofs.Bank as tyB
-use Rattle.crew.proofs.Bank.Laws as lawB
+use Rattle.bank.proofs.Bank as tyB
+use Rattle.bank.proofs.Bank.Laws as lawB
 use Rattle.crew.proofs.serve as at′
 use Rattle.crew.proofs.serve.Symbol as at-def
 use Rattle.crew.proofs.serve.Symbol.{name as #at}
 use Rattle.crew.proofs.serve.Met as at-thm
-use Rattle.crew.proofs.serve_bank.Key.{name as #it}
-use Rattle.crew.proofs.serve_bank as it
-use Rattle.crew.proofs.serve_bank.Statement as stated
-use Rattle.crew.proofs.serve_bank.Code as code
+use Rattle.bank.proofs.serve.Key.{name as #it}
+use Rattle.bank.proofs.serve as it
+use Rattle.bank.proofs.serve.Statement as stated
+use Rattle.bank.proofs.serve.Code as code
 
 abbrev stayed : Stays (it.ended .signature .params) (it.ended .kept)
 stayed = (stay-none (λ _. rowA) yes, (stay-none (λ _. u32) yes, (stay-none (λ _. tyH.the-row) yes, (stay-none (λ _. tyK.the-row) yes, (gave-slice (0 ∷ []) tt (plain (λ _. u32)), (gave-slice (1 ∷ []) tt (plain (λ _. u32)), tt))))))
@@ -176,9 +177,9 @@ meets 𝓤 H A W mem run 𝓣 known =
     (goes-none 𝓤 H A W 2 (λ _. rowA) yes (λ κs x f. refl), (goes-none 𝓤 H A W 2 (λ _. u32) yes (λ κs x f. refl), (goes-none 𝓤 H A W 2 (λ _. tyH.the-row) yes (λ κs x f. refl), (goes-none 𝓤 H A W 2 (λ _. tyK.the-row) yes (λ κs x f. refl), (goes-gave-slice 𝓤 H A W 2 0 tt (plain (λ _. u32)), (goes-gave-slice 𝓤 H A W 2 1 tt (plain (λ _. u32)), tt)))))) (it.clauses 𝓤 H A mem run)
     (WpFn 𝓤 H (𝓣 .C) (𝓣 .Λ) code.function) (WpFn-mono 𝓤 H (W .laws) 𝓣 code.function) (walks 𝓤 H A W mem run (𝓣 .C) (𝓣 .Λ) (fmOf 𝓤 H (W .laws) 𝓣) known)
 
-pub serve-bank-spec : {M : Type 1} → stated.statement M
+pub serve-spec : {M : Type 1} → stated.statement M
 unfolding code.routine tablesOf
-serve-bank-spec 𝓤 H 𝓜 𝓖 𝓡 =
+serve-spec 𝓤 H 𝓜 𝓖 𝓡 =
     entered 𝓤 H (tripleOf 𝓤 H (𝓖 .A) it.signature (it.spec 𝓤 H (𝓖 .A) (𝓜 .mem) (𝓡 .run)))
     (tables 𝓤 H 𝓜 𝓡 code.env .C) (tables 𝓤 H 𝓜 𝓡 code.env .Λ) #it code.function (code.unfolded 𝓤 H 𝓜 𝓡)
     (meets 𝓤 H (𝓖 .A) (givenOf 𝓤 H 𝓜 𝓖) (𝓜 .mem) (𝓡 .run) (tablesOf 𝓤 H 𝓜 (tables 𝓤 H 𝓜 𝓡 code.env))
