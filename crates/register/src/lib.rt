@@ -1,11 +1,12 @@
 // The register by value: starting an operation, and one step of one worker.
 ghost use mathlib.Core.Path.{_≡_};
 ghost use lib.ListN.{length};
+ghost use Rattle.names.specs.declared.Verdict.the-variants.{Pass};
 ghost use Rattle.record.specs.Worker.{begun};
 ghost use Rattle.moves.specs.Moves.{decided};
 ghost use Rattle.writes.specs.Carry.{after};
-ghost use Rattle.register.specs.Calls.{callVerdict, startVerdict, startOf, stepVerdict, stepOf};
-ghost use Rattle.register.specs.Step.{refusedWith, Small, wordFor, seenBy, carried};
+ghost use Rattle.register.specs.Calls.{callVerdict, startVerdict, startedBy, startOf, stepVerdict, steppedBy, stepOf};
+ghost use Rattle.register.specs.Step.{refusedWith, Small, wordFor, seenBy};
 use acts::Move;
 use header::Header;
 use moves::Seen;
@@ -87,6 +88,21 @@ impl Turn {
         Verdict::Pass
     }
 
+    // The worker is busy, with a record that begins.
+    fn begin(self, kind: u32, key: u32) -> Outcome
+        ensures { λ r. ⌜ r ≡ startedBy self kind key Pass ⌝ }
+    {
+        let mut header = self.header;
+        header.busy = sets::with_bit(header.busy, self.number);
+        let worker = begun(kind, key);
+        Outcome {
+            answer: Answer::Going,
+            steps: 0,
+            header,
+            worker,
+        }
+    }
+
     // Starting is private: it sets the busy bit and the record, and looks at the tables' lengths alone.
     pub fn start(self, kind: u32, key: u32, nodes: &[u32], buckets: &[u32]) -> Outcome
         ensures { λ r. ⌜ r ≡ startOf self kind key (length (now (nodes .entry))) (length (now (buckets .entry))) ⌝ }
@@ -94,17 +110,7 @@ impl Turn {
         let verdict = self.start_verdict(kind, key, nodes.len(), buckets.len());
         match verdict {
             Verdict::Refused(answer) => self.refused(answer),
-            Verdict::Pass => {
-                let mut header = self.header;
-                header.busy = sets::with_bit(header.busy, self.number);
-                let worker = begun(kind, key);
-                Outcome {
-                    answer: Answer::Going,
-                    steps: 0,
-                    header,
-                    worker,
-                }
-            }
+            Verdict::Pass => self.begin(kind, key),
         }
     }
 
@@ -130,21 +136,20 @@ impl Turn {
         requires { ⌜ Small (self .header) ⌝ }
         ensures { λ r. ⌜ r ≡ wordFor self (now (nodes .entry)) (now (buckets .entry)) ⌝ }
     {
-        let h = self.header;
-        let x = self.worker;
-        let place = x.place;
+        let dummies = self.header.m + self.header.w;
+        let place = self.worker.place;
         match place {
-            place::I1 => scans::lowest(nodes, h.m + h.w + 1, h.m + h.w + h.k),
-            place::TB => words::bucket(buckets, x.wanted),
-            place::B2 => words::bucket(buckets, tree::parent(x.making)),
-            place::B4 => scans::lowest(nodes, 1, h.m + h.w),
-            place::F1 => words::word(nodes, x.start, words::LINK),
-            place::F2 => words::word(nodes, x.cur, words::LINK),
-            place::F3 => words::word(nodes, x.prev, words::LINK),
-            place::F4 => words::word(nodes, x.prev, words::LINK),
-            place::L2 => words::word(nodes, x.prev, words::LINK),
-            place::D4A => words::word(nodes, x.cur, words::LINK),
-            place::D4B => words::word(nodes, x.prev, words::LINK),
+            place::I1 => scans::lowest(nodes, dummies + 1, dummies + self.header.k),
+            place::TB => words::bucket(buckets, self.worker.wanted),
+            place::B2 => words::bucket(buckets, tree::parent(self.worker.making)),
+            place::B4 => scans::lowest(nodes, 1, dummies),
+            place::F1 => words::word(nodes, self.worker.start, words::LINK),
+            place::F2 => words::word(nodes, self.worker.cur, words::LINK),
+            place::F3 => words::word(nodes, self.worker.prev, words::LINK),
+            place::F4 => words::word(nodes, self.worker.prev, words::LINK),
+            place::L2 => words::word(nodes, self.worker.prev, words::LINK),
+            place::D4A => words::word(nodes, self.worker.cur, words::LINK),
+            place::D4B => words::word(nodes, self.worker.prev, words::LINK),
             _ => 0,
         }
     }
@@ -182,11 +187,12 @@ impl Turn {
         self.look(nodes, buckets).decide()
     }
 
-    // The decision is carried out.
-    fn act(self, decision: Move, nodes: &mut [u32], buckets: &mut [u32]) -> Outcome
+    // A step that isn't refused: the decision is made, and carried out.
+    fn act(self, nodes: &mut [u32], buckets: &mut [u32]) -> Outcome
         requires { ⌜ Small (self .header) ⌝ }
-        ensures { λ r. ⌜ after r (now (nodes .exit)) (now (buckets .exit)) ≡ carried self decision (now (nodes .entry)) (now (buckets .entry)) ⌝ }
+        ensures { λ r. ⌜ after r (now (nodes .exit)) (now (buckets .exit)) ≡ steppedBy self (now (nodes .entry)) (now (buckets .entry)) Pass ⌝ }
     {
+        let decision = self.decision(&nodes[..], &buckets[..]);
         let h = self.header;
         let x = self.worker;
         writes::carry(h.m + h.w + h.k, self.number, h, x, decision, nodes, buckets)
@@ -199,10 +205,7 @@ impl Turn {
         let verdict = self.step_verdict(nodes.len(), buckets.len());
         match verdict {
             Verdict::Refused(answer) => self.refused(answer),
-            Verdict::Pass => {
-                let decision = self.decision(&nodes[..], &buckets[..]);
-                self.act(decision, nodes, buckets)
-            }
+            Verdict::Pass => self.act(nodes, buckets),
         }
     }
 }

@@ -1,6 +1,6 @@
 -- The verdict says which way the definition goes.
 -- Assumes nothing.
-use mathlib.Core.Path.{_≡_, refl, sym, _∙_}
+use mathlib.Core.Path.{_∙_}
 use Rattle.register.specs.Calls.{startOf}
 use borrow.Author.Needs.{needs}
 use Rattle.register.proofs.Turn.start.Statement.{statement}
@@ -18,11 +18,8 @@ refused-requires c κs = tt
 enum-told : tie.Need-enum-told
 enum-told c = search needs
 
-with-bit-requires : tie.Need-with-bit-requires
-with-bit-requires c κs = tt
-
-begun-requires : tie.Need-begun-requires
-begun-requires c κs = tt
+begin-requires : tie.Need-begin-requires
+begin-requires c κs = tt
 
 returns : tie.Need-returns
 unfolding startOf
@@ -30,7 +27,7 @@ returns c = c .refused .ensures ∙ rw (← c .before .before .before .before .s
 
 returns-2 : tie.Need-returns-2
 unfolding startOf
-returns-2 c = rw (← c .before .before .before .before .before .start-verdict .ensures, c .before .before .before .enum-told .given .1) (rw (c .begun .ensures, c .before .with-bit .ensures))
+returns-2 c = c .begin .ensures ∙ rw (← c .before .before .before .start-verdict .ensures, c .before .enum-told .given .1)
 
 pub start-spec : {M : Type 1} → statement M
 start-spec =
@@ -40,7 +37,6 @@ start-spec =
     enum-known-verdict
     refused-requires
     enum-told
-    with-bit-requires
-    begun-requires
+    begin-requires
     returns
     returns-2)

@@ -1,6 +1,6 @@
 -- The verdict says which way the definition goes.
 -- Assumes nothing.
-use mathlib.Core.Path.{_≡_, refl, sym, _∙_}
+use mathlib.Core.Path.{sym, _∙_}
 use Rattle.register.specs.Calls.{stepOf}
 use Rattle.register.proofs.Laws.{step-small}
 use borrow.Author.Needs.{needs}
@@ -19,11 +19,8 @@ refused-requires c κs = tt
 enum-told : tie.Need-enum-told
 enum-told c = search needs
 
-decision-requires : tie.Need-decision-requires
-decision-requires c κs = step-small _ _ _ (sym (c .before .before .before .before .step-verdict .ensures) ∙ c .before .before .enum-told .given .1)
-
 act-requires : tie.Need-act-requires
-act-requires c κs = step-small _ _ _ (sym (c .before .before .before .before .before .before .before .step-verdict .ensures) ∙ c .before .before .before .before .before .enum-told .given .1)
+act-requires c κs = step-small _ _ _ (sym (c .before .before .before .before .step-verdict .ensures) ∙ c .before .before .enum-told .given .1)
 
 returns : tie.Need-returns
 unfolding stepOf
@@ -37,7 +34,7 @@ same-length-2 c = search needs
 
 returns-2 : tie.Need-returns-2
 unfolding stepOf
-returns-2 c = rw (← c .before .before .before .before .before .before .before .before .before .before .before .before .step-verdict .ensures, c .before .before .before .before .before .before .before .before .before .before .enum-told .given .1) (c .before .before .before .before .act .ensures ∙ rw (c .before .before .before .before .before .before .before .decision .ensures))
+returns-2 c = rw (← c .before .before .before .before .before .before .before .before .before .step-verdict .ensures, c .before .before .before .before .before .before .before .enum-told .given .1) (c .before .before .before .before .act .ensures)
 
 pub step-spec : {M : Type 1} → statement M
 step-spec =
@@ -47,7 +44,6 @@ step-spec =
     enum-known-verdict
     refused-requires
     enum-told
-    decision-requires
     act-requires
     returns
     same-length

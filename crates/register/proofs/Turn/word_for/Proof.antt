@@ -9,17 +9,14 @@ use borrow.Author.Needs.{needs}
 use Rattle.register.proofs.Turn.word_for.Statement.{statement}
 use Rattle.register.proofs.Turn.word_for.Tie as tie
 
+add-dummies : tie.Need-add-dummies
+add-dummies c = search needs
+
 add-lowest : tie.Need-add-lowest
 add-lowest c = search needs
 
 add-lowest-2 : tie.Need-add-lowest-2
 add-lowest-2 c = search needs
-
-add-lowest-3 : tie.Need-add-lowest-3
-add-lowest-3 c = search needs
-
-add-lowest-4 : tie.Need-add-lowest-4
-add-lowest-4 c = search needs
 
 lowest-requires : tie.Need-lowest-requires
 lowest-requires c κs = tt
@@ -32,9 +29,6 @@ parent-requires c κs = tt
 
 bucket-requires-2 : tie.Need-bucket-requires-2
 bucket-requires-2 c κs = tt
-
-add-lowest-5 : tie.Need-add-lowest-5
-add-lowest-5 c = search needs
 
 lowest-requires-2 : tie.Need-lowest-requires-2
 lowest-requires-2 c κs = tt
@@ -62,7 +56,7 @@ word-requires-7 c κs = tt
 
 returns : tie.Need-returns
 unfolding wordAt pick
-returns c = c .lowest .ensures ∙ (here _ _ _ 1 (c .before .before .before .before .match .keys1))
+returns c = c .lowest .ensures ∙ (here _ _ _ 1 (c .before .before .match .keys1))
 
 returns-2 : tie.Need-returns-2
 unfolding wordAt pick
@@ -74,7 +68,7 @@ returns-3 c = c .bucket2 .ensures ∙ rw (c .before .parent .ensures) (here _ _ 
 
 returns-4 : tie.Need-returns-4
 unfolding wordAt pick
-returns-4 c = c .lowest2 .ensures ∙ (here _ _ _ 5 (c .before .before .match .keys4))
+returns-4 c = c .lowest2 .ensures ∙ (here _ _ _ 5 (c .before .match .keys4))
 
 returns-5 : tie.Need-returns-5
 unfolding wordAt pick
@@ -126,15 +120,13 @@ pub word-for-spec : {M : Type 1} → statement M
 word-for-spec =
     tie.close
     (tie.spec
+    add-dummies
     add-lowest
     add-lowest-2
-    add-lowest-3
-    add-lowest-4
     lowest-requires
     bucket-requires
     parent-requires
     bucket-requires-2
-    add-lowest-5
     lowest-requires-2
     word-requires
     word-requires-2
