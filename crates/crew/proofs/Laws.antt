@@ -6,15 +6,15 @@ use mathlib.Core.Path.{_≡_, refl, sym, ap, subst, _∙_}
 use mathlib.Core.Bool.{Bool, true, false, false≢true, _&&_}
 use mathlib.Core.List.{List}
 use lib.Dec.{ltb, leb, eqb}
-use lib.ListN.{length, getD, set, length-set}
+use lib.ListN.{length, set, length-set}
 use lib.Seq.{set-getD, set-set, getD-set-same}
-use borrow.Author.Tests.{le-leb, lt-ltb, ltb-false, ne-eqb, ltb-true}
+use borrow.Author.Tests.{le-leb, lt-ltb, ltb-false, ne-eqb}
 use Rattle.choice.specs.Choice.{pick}
 use Rattle.choice.proofs.Auto.{pick-false, pick-true}
 use Rattle.choice.proofs.Cases.{by-bool, both}
 use Rattle.names.specs.Names.{numberOf}
 use Rattle.names.specs.declared.Answer.{Answer}
-use Rattle.names.specs.declared.Answer.the-variants.{Limit, Short, Damaged, NoWorker}
+use Rattle.names.specs.declared.Answer.the-variants.{Short, Damaged, NoWorker}
 use Rattle.header.specs.declared.Header.{Header}
 use Rattle.header.specs.Header.{headerDamaged, limitBroken}
 use Rattle.record.specs.declared.Worker.{Worker}
@@ -242,10 +242,6 @@ filled-length (suc n) x ws = length-set (filled n x ws) n x ∙ filled-length n 
 pub filled-none : (x : Worker) (ws : List Worker) → filled 0 x ws ≡ ws
 unfolding filled
 filled-none x ws = refl
-
-pub filled-next : (n : ℕ) (x : Worker) (ws : List Worker) → set (filled n x ws) n x ≡ filled (suc n) x ws
-unfolding filled
-filled-next n x ws = refl
 
 -- as many are wanted as the choice says
 filled-pick : (t : Bool) (n : ℕ) (x : Worker) (ws : List Worker) → filled (pick t n 0) x ws ≡ pick t (filled n x ws) ws

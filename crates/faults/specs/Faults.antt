@@ -1,5 +1,5 @@
 -- The record's own faults, a row each: the tests that 12 runs.
-use Prim.Native.Nat.{ℕ, _+_}
+use Prim.Native.Nat.{ℕ}
 use mathlib.Core.Bool.{Bool, not, _&&_, _||_}
 use lib.Dec.{leb, ltb, eqb}
 use Rattle.tree.specs.Tree.{onPath, powerUpTo}

@@ -132,14 +132,6 @@ module _ (h : Header) (fine : headerDamaged h ≡ false) where
   pub limits-of : Limits h
   limits-of = sound-header h .sound fine .0 .0
 
-  -- the size is a power of two from 2 to M
-  pub size-of : PowerFromTo 2 (h .m) (h .size)
-  size-of = sound-header h .sound fine .0 .1
-
-  -- busy has no bit at W or above
-  pub busy-of : h .busy < 2 ^ h .w
-  busy-of = sound-header h .sound fine .1
-
 -- limits that hold are small
 pub limits-small : (h : Header) → Limits h → nodesOf h ≤ 5136
 limits-small h l = omega (arith, l .buckets .1, l .keys .1, l .workers .1)

@@ -1,8 +1,7 @@
 -- The header: how many nodes there are, its faults row by row, and the load test.
 use Prim.Native.Nat.{ℕ, _+_, _*_, _/_, _^_}
-use mathlib.Core.Bool.{Bool, true, false, not, _&&_, _||_}
-use lib.Dec.{leb, ltb, eqb}
-use Rattle.choice.specs.Choice.{pick}
+use mathlib.Core.Bool.{Bool, not, _&&_, _||_}
+use lib.Dec.{leb, ltb}
 use Rattle.tree.specs.Tree.{powerUpTo}
 use Rattle.header.specs.declared.Header.{Header}
 

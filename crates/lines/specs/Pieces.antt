@@ -13,9 +13,11 @@ use Rattle.lines.specs.Decimal.{decimal}
 use Rattle.lines.specs.Words.{wordAt, wordOfKind, wordOfAnswer}
 use Rattle.lines.specs.Word.{NOTHING, REGISTER, REFUSED, END, SPACE, MINUS, NEWLINE}
 
+-- a line's pieces, by how many numbers it has
 abbrev pub pieces : ℕ → List ℕ → List ℕ → Pieces
 pieces count words numbers = record { words = words; numbers = numbers; count = count }
 
+-- a register that was prepared
 abbrev pub registerPieces : ℕ → ℕ → ℕ → ℕ → Pieces
 registerPieces m k w l = pieces 4 (REGISTER ∷ SPACE ∷ SPACE ∷ SPACE ∷ NEWLINE ∷ []) (m ∷ k ∷ w ∷ l ∷ [])
 
@@ -23,12 +25,14 @@ registerPieces m k w l = pieces 4 (REGISTER ∷ SPACE ∷ SPACE ∷ SPACE ∷ NE
 abbrev pub endedOf : ℕ → ℕ → ℕ → ℕ → ℕ → ℕ → Pieces
 endedOf count worker what key told steps = pieces count (NOTHING ∷ what ∷ told ∷ NEWLINE ∷ NOTHING ∷ []) (worker ∷ key ∷ steps ∷ 0 ∷ [])
 
+-- nothing where the kind or the answer has no word
 unfoldable pub endedPieces : ℕ → ℕ → ℕ → ℕ → ℕ → Pieces
 endedPieces worker kind key answer steps =
     pick (eqb (wordOfKind kind) NOTHING || eqb (wordOfAnswer answer) NOTHING)
     (endedOf 0 worker (wordOfKind kind) key (wordOfAnswer answer) steps)
     (endedOf 3 worker (wordOfKind kind) key (wordOfAnswer answer) steps)
 
+-- a refusal that does not end an operation
 abbrev pub refusedPieces : ℕ → ℕ → Pieces
 refusedPieces number offset = pieces 2 (REFUSED ∷ SPACE ∷ NEWLINE ∷ NOTHING ∷ NOTHING ∷ []) (number ∷ offset ∷ 0 ∷ 0 ∷ [])
 

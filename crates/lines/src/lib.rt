@@ -55,7 +55,7 @@ struct Pieces {
 }
 
 // The word of a kind; nothing where it has none.
-fn kind_word(kind: u32) -> u8
+fn word_of_kind(kind: u32) -> u8
     ensures { λ r. ⌜ r ≡ wordOfKind kind ⌝ }
 {
     if kind == kind::INSERT {
@@ -71,7 +71,7 @@ fn kind_word(kind: u32) -> u8
 }
 
 // The word of an answer, by its number; nothing where it has none.
-fn answer_word(answer: u32) -> u8
+fn word_of_answer(answer: u32) -> u8
     ensures { λ r. ⌜ r ≡ wordOfAnswer answer ⌝ }
 {
     if answer == 1 {
@@ -106,8 +106,8 @@ fn register_pieces(m: u32, k: u32, w: u32, l: u32) -> Pieces
 fn ended_pieces(worker: u32, kind: u32, key: u32, answer: u32, steps: u32) -> Pieces
     ensures { λ r. ⌜ r ≡ endedPieces worker kind key answer steps ⌝ }
 {
-    let what = kind_word(kind);
-    let told = answer_word(answer);
+    let what = word_of_kind(kind);
+    let told = word_of_answer(answer);
     let words = [NOTHING, what, told, NEWLINE, NOTHING];
     let numbers = [worker as u64, key as u64, steps as u64, 0];
     if (what == NOTHING) | (told == NOTHING) {
@@ -192,7 +192,7 @@ fn start_of(word: usize) -> usize
     if word < 15 { starts[word] } else { 0 }
 }
 
-// The words side by side, and of them one.
+// One word, cut out of the text in which all of them stand side by side.
 fn put_word(out: &mut [u8], at: usize, word: u8) -> usize
     ensures { λ r. ⌜ Laid (now (out .entry)) at (wordAt word) (now (out .exit)) r ⌝ }
 {

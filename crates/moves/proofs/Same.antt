@@ -1,4 +1,4 @@
--- Each contract says its result, and what a lent table holds at exit, as one definition of the arguments, so two runs that meet it agree.
+-- The contract says its result is one definition of the arguments, so two results that meet it are both that, and equal.
 -- Assumes nothing.
 use mathlib.Core.Path.{sym, _∙_}
 use Rattle.choice.proofs.Same.{Determined}

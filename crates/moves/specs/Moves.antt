@@ -1,7 +1,7 @@
 -- What one step does at each place, from what it sees: header, record, the shared word read, and at F3 the split key of cur.
 -- The labels are those of the scope paper's steps; docs/LISTINGS.md has the listings' lines beside them.
 use Prim.Native.Nat.{ℕ, _+_, _*_, _/_, _%_}
-use mathlib.Core.Bool.{Bool, true, false, not, _&&_, _||_}
+use mathlib.Core.Bool.{Bool, not, _&&_, _||_}
 use lib.Dec.{ltb, eqb}
 use Rattle.choice.specs.Choice.{pick}
 use Rattle.split.specs.Split.{regular, dummy}

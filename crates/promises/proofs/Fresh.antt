@@ -3,16 +3,16 @@
 use Prim.Native.Nat.{ℕ, zero, suc, _+_, _*_, _≤_, _<_}
 use mathlib.Core.Bool.{Bool, true, false, true≢false, _||_}
 use mathlib.Core.List.{List}
-use mathlib.Core.Path.{_≡_, refl, sym, ap, _∙_}
+use mathlib.Core.Path.{_≡_, refl, ap, _∙_}
 use native.Mathlib.Decide.{ℕ-discrete}
 use native.Mathlib.Omega.{arith}
 use borrow.Author.Tests.{ltb-false}
 use lib.Dec.{ltb}
-use lib.ListN.{length, getD, set}
+use lib.ListN.{length}
 use lib.Seq.{getD-set-other}
 use Rattle.choice.proofs.Cases.{by-bool}
 use Rattle.words.specs.Words.{STANDING, TAKEN, word, put, bucket, store}
-use Rattle.words.proofs.Laws.{nothing, word-at, put-at, put-same, put-node, put-word, put-length, store-same, store-other, store-length}
+use Rattle.words.proofs.Laws.{put-at, put-same, put-node, put-word, put-length, store-same, store-other, store-length}
 use Rattle.scans.specs.Scans.{cleared}
 use Rattle.scans.proofs.Laws.{cleared-length, cleared-below, cleared-beyond}
 use Rattle.names.specs.Names.{numberOf}
@@ -20,12 +20,11 @@ use Rattle.names.specs.declared.Answer.{Answer}
 use Rattle.names.specs.declared.Answer.the-variants.{Going, Limit, Short}
 use Rattle.header.specs.declared.Header.{Header}
 use Rattle.header.specs.Header.{nodesOf, limitBroken}
-use Rattle.header.specs.Rows.{Limits as Limited}
 use Rattle.header.proofs.Rows.{limits}
 use Rattle.prepare.specs.declared.Limits.{Limits}
 use Rattle.names.specs.declared.Verdict.{Verdict}
-use Rattle.names.specs.declared.Verdict.the-variants.{Pass, Refused}
-use Rattle.prepare.specs.Prepare.{Kept, freshHeader, prepareVerdict, preparedBy, prepared}
+use Rattle.names.specs.declared.Verdict.the-variants.{Pass}
+use Rattle.prepare.specs.Prepare.{freshHeader, prepareVerdict, preparedBy, prepared}
 use Rattle.header.specs.Header.{isShort}
 use Rattle.promises.specs.Fresh.{Fresh, PrepareFresh}
 

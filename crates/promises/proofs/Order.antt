@@ -1,6 +1,6 @@
--- Clearing the top set bit lowers the reversal, so a parent's dummy comes before its child's, and the dummies of a path come in its order.
+-- Clearing the top set bit lowers the reversal, so a parent's dummy comes before its child's.
 -- Assumes nothing.
-use Prim.Native.Nat.{ℕ, zero, suc, _+_, _*_, _/_, _%_, _^_, _<_, _≤_}
+use Prim.Native.Nat.{ℕ, zero, suc, _+_, _*_, _/_, _%_, _^_, _<_}
 use native.Mathlib.Nat.{pow-suc, one-mul}
 use native.Mathlib.Omega.{arith}
 use mathlib.Core.Path.{_≡_}
@@ -11,8 +11,8 @@ use borrow.Author.Tests.{leb-true, leb-false}
 use Rattle.choice.proofs.Cases.{by-bool}
 use Rattle.split.specs.Split.{rev, reverse, dummy}
 use Rattle.split.proofs.Laws.{rev-suc, rev-of-zero}
-use Rattle.tree.specs.Tree.{par, parentOf, onPath}
-use Rattle.tree.proofs.Laws.{par-suc, parent-lt, along-path}
+use Rattle.tree.specs.Tree.{par, parentOf}
+use Rattle.tree.proofs.Laws.{par-suc}
 
 -- clearing the top set bit lowers the reversal: the parent's dummy comes first
 pub rev-par : (k b : ℕ) → 0 < b → b < 2 ^ k → rev k (par k b) < rev k b
@@ -34,15 +34,3 @@ rev-par (suc k) b h l = rw (par-suc k b) (by-bool (λ (p : ℕ). rev (suc k) p <
 pub parent-first : (b : ℕ) → 0 < b → b < 4294967296 → dummy (parentOf b) < dummy b
 unfolding dummy reverse parentOf
 parent-first b h l = rev-par 32 b h l
-
--- the dummies of a path come in its order, 0's first
-pub path-first : (b a : ℕ) → b < 4294967296 → onPath b a ≡ true → dummy a ≤ dummy b
-path-first b a l on =
-    along-path
-    (λ (x : ℕ). x < 4294967296 → dummy a ≤ dummy x)
-    a
-    (λ _. omega arith)
-    (λ x h _ ih l. omega (arith, parent-first x h l, ih (omega (arith, parent-lt x h))))
-    b
-    on
-    l

@@ -22,11 +22,10 @@ use Rattle.header.specs.declared.Header.{Header}
 use Rattle.header.proofs.Rows.{limit-broken, header-damaged}
 use Rattle.record.specs.declared.Worker.{Worker}
 use Rattle.record.specs.Worker.{idle}
-use Rattle.prepare.specs.declared.Limits.{Limits}
 use Rattle.prepare.specs.Prepare.{freshHeader, prepared}
 use Rattle.writes.specs.Carry.{After}
 use Rattle.crew.specs.Crew.{Left, left, refused, turnAt, stored, tooFew, stepAt, startAt, tooFewFor, prepareAt}
-use Rattle.promises.specs.Unchanged.{Refusal, Untouched}
+use Rattle.promises.specs.Unchanged.{Untouched}
 use Rattle.promises.specs.Tables.{AllAsBefore, UnchangedIn, PrepareAtExactly, StartAtExactly, StepAtExactly, PrepareAtUnchanged, StartAtUnchanged, StepAtUnchanged}
 use Rattle.promises.proofs.Refusals.{Allowed, prepare-gives, start-gives, step-gives}
 use Rattle.promises.proofs.Unchanged.{step-unchanged, start-unchanged, prepare-unchanged}

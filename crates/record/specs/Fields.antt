@@ -1,6 +1,6 @@
 -- A record with one field changed. antt has no update of a record, so each is written out, once.
 use Prim.Native.Nat.{ℕ}
-use mathlib.Core.Bool.{Bool, false}
+use mathlib.Core.Bool.{Bool}
 use Rattle.record.specs.declared.Worker.{Worker}
 
 abbrev pub to : ℕ → Worker → Worker

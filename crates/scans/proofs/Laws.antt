@@ -5,21 +5,21 @@ use mathlib.Core.Logic.{_≢_}
 use mathlib.Core.Bool.{Bool, true, false, false≢true, _&&_}
 use mathlib.Core.List.{List, [], _∷_}
 use Prim.Native.Nat.{ℕ, zero, suc, _+_, _-_, _*_, _/_, _≤_, _<_, min}
-use native.Mathlib.Nat.{mod-eq-of-lt, mul-comm, add-zero, add-suc}
+use native.Mathlib.Nat.{mul-comm, add-zero, add-suc}
 use native.Mathlib.Numerals.{add-one}
 use native.Mathlib.Decide.{ℕ-discrete}
 use native.Mathlib.Omega.{arith}
-use borrow.Author.Tests.{eq-eqb, ne-eqb, eqb-true, eqb-false, le-leb, lt-leb, lt-ltb, leb-true, leb-false}
+use borrow.Author.Tests.{eq-eqb, ne-eqb, le-leb, lt-leb, lt-ltb, leb-true, leb-false}
 use lib.Dec.{eqb, leb, ltb}
-use lib.ListN.{length, getD, set, length-set}
-use lib.Seq.{getD-set-same, getD-set-other, set-getD, set-out}
+use lib.ListN.{length, getD, set}
+use lib.Seq.{getD-set-other, set-getD, set-out}
 use Rattle.choice.specs.Choice.{pick}
 use Rattle.choice.proofs.Auto.{pick-true, pick-false}
 use Rattle.choice.proofs.Cases.{by-eq, both}
 use Rattle.sets.specs.Sets.{dropped}
 use Rattle.sets.proofs.Laws.{dropped-zero, dropped-le}
 use Rattle.words.specs.Words.{STANDING, LARGEST-SET, word, put, store}
-use Rattle.words.proofs.Laws.{put-length, put-same, put-node, put-word, word-at, store-length}
+use Rattle.words.proofs.Laws.{put-length, put-same, put-node, store-length}
 use Rattle.scans.specs.Scans.{leave, sweep, freeFrom, lowest, cleared}
 
 -- a standing that is a set loses the worker, and any other stays
@@ -228,9 +228,6 @@ pub lowest-free : (ns : List ℕ) (from to n : ℕ) → lowest ns from to ≡ n 
 lowest-free ns from to n e ne =
     let f = found ns from to n e ne in
     (omega (arith, f .low), omega (arith, f .low, f .high), f .free)
-
-pub lowest-least : (ns : List ℕ) (from to n : ℕ) → lowest ns from to ≡ n → (n ≡ 0 → ⊥) → (m : ℕ) → 1 ≤ m → from ≤ m → m < n → word ns m STANDING ≡ 0 → ⊥
-lowest-least ns from to n e ne m h1 a b = found ns from to n e ne .least m (omega arith) b
 
 pub lowest-none : (ns : List ℕ) (from to : ℕ) → lowest ns from to ≡ 0 → (n : ℕ) → 1 ≤ n → from ≤ n → n ≤ to → word ns n STANDING ≡ 0 → ⊥
 unfolding lowest

@@ -8,7 +8,6 @@ use native.Mathlib.Omega.{arith}
 use native.Mathlib.Decide.{ℕ-discrete}
 use lib.ListN.{set}
 use Rattle.choice.proofs.Cases.{by-eq, both}
-use Rattle.split.specs.Split.{dummy}
 use Rattle.words.specs.Words.{SPLIT-KEY, LINK, STANDING, TAKEN, put, bucket, store}
 use Rattle.words.proofs.Laws.{nothing, store-length, store-same, store-other}
 use Rattle.sets.specs.Sets.{bit, dropped, raised}

@@ -21,14 +21,6 @@ unfolding laid
 laid-past out at [] h = refl
 laid-past out at (b ∷ text) h = rw (set-out out at b h) (laid-past out (suc at) text (omega arith))
 
--- the place that is returned is never past the buffer
-pub after-within : (out : List ℕ) (at : ℕ) (text : List ℕ) → after out at text ≤ length out
-after-within out at text = omega arith
-
--- and where the text fits, it is the sum
-pub after-fits : (out : List ℕ) (at : ℕ) (text : List ℕ) → at + length text ≤ length out → after out at text ≡ at + length text
-after-fits out at text h = omega arith
-
 -- two texts, the second where the first ends
 laid-join : (out : List ℕ) (at : ℕ) (s t : List ℕ) → laid out at (s ++ t) ≡ laid (laid out at s) (at + length s) t
 unfolding laid
@@ -73,16 +65,6 @@ pub laid-take : (out : List ℕ) (at : ℕ) (text : List ℕ) → at + length te
 laid-take out at text h =
     rw (laid-whole out at text h, drop-at (take at out) (text ++ drop (at + length text) out) at (length-take-le at out (omega arith)))
     (take-at text (drop (at + length text) out) (length text) refl)
-
--- what stands before it is as it was
-pub laid-before : (out : List ℕ) (at : ℕ) (text : List ℕ) → at + length text ≤ length out → take at (laid out at text) ≡ take at out
-laid-before out at text h = rw (laid-whole out at text h) (take-at (take at out) (text ++ drop (at + length text) out) at (length-take-le at out (omega arith)))
-
--- and so is what stands behind it
-pub laid-behind : (out : List ℕ) (at : ℕ) (text : List ℕ) → at + length text ≤ length out → drop (at + length text) (laid out at text) ≡ drop (at + length text) out
-laid-behind out at text h =
-    rw (laid-whole out at text h, sym (append-assoc (take at out) text (drop (at + length text) out)))
-    (drop-at (take at out ++ text) (drop (at + length text) out) (at + length text) (length-append (take at out) text ∙ ap (λ (n : ℕ). n + length text) (length-take-le at out (omega arith))))
 
 -- one byte more of a text
 pub laid-step : {out : List ℕ} {at : ℕ} {mid end : List ℕ} {p q : ℕ} (text : List ℕ) (i : ℕ) → i < length text → Laid out at (take i text) mid p → Laid mid p (getD text i 0 ∷ []) end q → Laid out at (take (i + 1) text) end q

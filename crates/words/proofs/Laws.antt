@@ -1,22 +1,17 @@
 -- A store changes the word that it names and no other, so what a loop of stores changes is read off one turn at a time.
 -- Assumes nothing.
-use mathlib.Core.Path.{_≡_, refl, sym, ap, _∙_}
+use mathlib.Core.Path.{_≡_, refl, ap}
 use mathlib.Core.Logic.{_≢_}
 use mathlib.Core.Bool.{true, false}
-use mathlib.Core.List.{List, [], _∷_}
+use mathlib.Core.List.{List}
 use Prim.Native.Nat.{ℕ, zero, suc, _+_, _-_, _*_, _≤_, _<_}
 use native.Mathlib.Nat.{mod-eq-of-lt}
-use native.Mathlib.Numerals.{add-one}
-use native.Mathlib.Decide.{ℕ-discrete}
 use native.Mathlib.Omega.{arith}
-use borrow.Author.Tests.{eq-eqb, ne-eqb, eqb-true, eqb-false}
-use lib.Dec.{eqb}
+use borrow.Author.Tests.{eqb-true, eqb-false}
 use lib.ListN.{length, getD, set, length-set}
 use lib.Seq.{getD-set-same, getD-set-other}
-use Rattle.choice.specs.Choice.{pick}
 use Rattle.choice.proofs.Auto.{pick-true, pick-false}
-use Rattle.choice.proofs.Cases.{by-eq}
-use Rattle.words.specs.Words.{STANDING, word, put, bucket, store, linkWord, linkTo, isTo}
+use Rattle.words.specs.Words.{word, put, bucket, store, linkWord, linkTo, isTo}
 
 -- a word of node n, counted from its first
 pub word-at : (ns : List ℕ) (n j : ℕ) → 1 ≤ n → word ns n j ≡ getD ns (3 * (n - 1) + j) 0

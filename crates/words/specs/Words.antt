@@ -1,9 +1,9 @@
 -- The lent tables: what their words mean, what is read of them and what is stored.
 -- A node is three words. Nodes are numbered from 1, and 0 means nothing: it reads 0 and a store to it does nothing.
-use Prim.Native.Nat.{ℕ, zero, suc, _+_, _-_, _*_, _/_, _%_, _^_}
+use Prim.Native.Nat.{ℕ, zero, suc, _+_, _-_, _*_, _%_}
 use mathlib.Core.Bool.{Bool}
 use mathlib.Core.List.{List}
-use lib.Dec.{ltb, eqb}
+use lib.Dec.{eqb}
 use lib.ListN.{getD, set}
 use Rattle.choice.specs.Choice.{pick}
 

@@ -1,6 +1,6 @@
 -- The test is the definition's own.
 -- Assumes nothing.
-use mathlib.Core.Path.{_≡_, refl, sym, _∙_}
+use mathlib.Core.Path.{sym}
 use Rattle.choice.proofs.Auto.{pick-true, pick-false}
 use Rattle.chain.specs.Chain.{isKey}
 use Rattle.chain.proofs.key_at.Statement.{statement}

@@ -1,6 +1,6 @@
 -- Each part is copied as the definition copies it.
 -- Assumes nothing.
-use mathlib.Core.Path.{_≡_, refl}
+use mathlib.Core.Path.{refl}
 use Rattle.crew.proofs.apart.Statement.{statement}
 use Rattle.crew.proofs.apart.Tie as tie
 

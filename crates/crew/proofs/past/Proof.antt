@@ -1,6 +1,6 @@
 -- Each test that was passed says which way the definition goes.
 -- Assumes nothing.
-use mathlib.Core.Path.{_≡_, refl, ap, _∙_}
+use mathlib.Core.Path.{refl, ap, _∙_}
 use Rattle.choice.proofs.Auto.{then-is, else-is}
 use Rattle.names.specs.declared.Answer.{Answer}
 use Rattle.crew.specs.Crew.{refused}

@@ -1,6 +1,6 @@
 -- The number of records says which way the definition goes.
 -- Assumes nothing.
-use mathlib.Core.Path.{_≡_, refl, ap}
+use mathlib.Core.Path.{ap}
 use borrow.Author.Tests.{lt-ltb, le-ltb}
 use Rattle.choice.proofs.Auto.{then-is, else-is}
 use Rattle.prepare.specs.Prepare.{Kept}

@@ -1,7 +1,5 @@
 -- The number of records says which way the definition goes; each arm is its call's own clause.
 -- Assumes nothing.
-use native.Mathlib.Omega.{arith}
-use mathlib.Core.Path.{_≡_, refl, sym, ap, _∙_}
 use borrow.Author.Needs.{needs}
 use borrow.Author.Tests.{lt-ltb, le-ltb}
 use Rattle.choice.proofs.Auto.{then-is, else-is}

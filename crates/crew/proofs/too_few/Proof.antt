@@ -1,6 +1,6 @@
 -- The test that was passed says which way the definition goes.
 -- Assumes nothing.
-use mathlib.Core.Path.{_≡_, refl}
+use mathlib.Core.Path.{refl}
 use Rattle.choice.proofs.Auto.{then-is, else-is}
 use Rattle.crew.specs.Crew.{tooFew}
 use Rattle.crew.proofs.too_few.Statement.{statement}

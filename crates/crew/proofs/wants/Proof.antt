@@ -1,6 +1,5 @@
 -- The answer's number says how many records are wanted.
 -- Assumes nothing.
-use mathlib.Core.Path.{_≡_, refl}
 use Rattle.choice.proofs.Auto.{pick-true, pick-false, eq-of-left, ne-of-left}
 use Rattle.crew.proofs.wants.Statement.{statement}
 use Rattle.crew.proofs.wants.Tie as tie

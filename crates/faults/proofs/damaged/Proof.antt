@@ -1,4 +1,4 @@
--- Each row is what its method says.
+-- Each row is what its function says.
 -- Assumes nothing.
 use Rattle.faults.specs.Faults.{workerDamaged}
 use Rattle.faults.proofs.damaged.Statement.{statement}

@@ -1,8 +1,6 @@
 -- The path is asked only where a bucket is being made; elsewhere the row is false.
 -- Assumes nothing.
 use Rattle.faults.specs.Faults.{makingAstray}
-use mathlib.Core.Path.{_≡_, refl, sym, ap, _∙_}
-use Rattle.choice.proofs.Auto.{then-is, else-is, pick-true, pick-false}
 use Rattle.faults.proofs.making_astray.Statement.{statement}
 use Rattle.faults.proofs.making_astray.Tie as tie
 

@@ -1,8 +1,6 @@
 -- The size is asked only at I9 and I10; elsewhere the row is false.
 -- Assumes nothing.
 use Rattle.faults.specs.Faults.{sizeMisfit}
-use mathlib.Core.Path.{_≡_, refl, sym, ap, _∙_}
-use Rattle.choice.proofs.Auto.{then-is, else-is, pick-true, pick-false}
 use Rattle.faults.proofs.size_misfit.Statement.{statement}
 use Rattle.faults.proofs.size_misfit.Tie as tie
 

@@ -17,25 +17,25 @@ same-test e f = rw (e, f)
 same-pieces : {k k′ a a′ : ℕ} (count worker key steps : ℕ) → k ≡ k′ → a ≡ a′ → endedOf count worker k key a steps ≡ endedOf count worker k′ key a′ steps
 same-pieces count worker key steps e f = rw (e, f)
 
-kind-word-requires : tie.Need-kind-word-requires
-kind-word-requires c κs = tt
+word-of-kind-requires : tie.Need-word-of-kind-requires
+word-of-kind-requires c κs = tt
 
-answer-word-requires : tie.Need-answer-word-requires
-answer-word-requires c κs = tt
+word-of-answer-requires : tie.Need-word-of-answer-requires
+word-of-answer-requires c κs = tt
 
 returns : tie.Need-returns
 unfolding endedPieces
 returns c =
-    let k = c .before .before .kind-word .ensures in
-    let a = c .before .answer-word .ensures in
+    let k = c .before .before .word-of-kind .ensures in
+    let a = c .before .word-of-answer .ensures in
     let s = c .before .before .before .args in
     then-is _ _ _ _ (same-test k a ∙ c .if1 .taken) (same-pieces 0 (s .worker) (s .key) (s .steps) k a)
 
 returns-2 : tie.Need-returns-2
 unfolding endedPieces
 returns-2 c =
-    let k = c .before .before .kind-word .ensures in
-    let a = c .before .answer-word .ensures in
+    let k = c .before .before .word-of-kind .ensures in
+    let a = c .before .word-of-answer .ensures in
     let s = c .before .before .before .args in
     else-is _ _ _ _ (same-test k a ∙ c .if1 .left) (same-pieces 3 (s .worker) (s .key) (s .steps) k a)
 
@@ -43,7 +43,7 @@ pub ended-pieces-spec : {M : Type 1} → statement M
 ended-pieces-spec =
     tie.close
     (tie.spec
-    kind-word-requires
-    answer-word-requires
+    word-of-kind-requires
+    word-of-answer-requires
     returns
     returns-2)

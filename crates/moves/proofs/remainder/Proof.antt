@@ -1,6 +1,6 @@
 -- Nothing is taken off by a remainder of 0.
 -- Assumes nothing.
-use mathlib.Core.Path.{_≡_, sym}
+use mathlib.Core.Path.{sym}
 use native.Mathlib.Nat.{mod-zero}
 use borrow.Author.Needs.{needs}
 use Rattle.moves.proofs.remainder.Statement.{statement}

@@ -1,7 +1,7 @@
 -- The test says where the operation starts.
 -- Assumes nothing.
-use mathlib.Core.Path.{_≡_, refl, sym, ap, _∙_}
-use borrow.Author.Tests.{eq-eqb, ne-eqb, le-leb, lt-leb, lt-ltb, le-ltb}
+use mathlib.Core.Path.{_∙_}
+use borrow.Author.Tests.{eq-eqb, ne-eqb}
 use Rattle.choice.specs.Choice.{pick}
 use Rattle.record.specs.Worker.{begun}
 use Rattle.register.proofs.begun.Statement.{statement}

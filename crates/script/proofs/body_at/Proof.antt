@@ -1,9 +1,6 @@
 -- `script::body_at` meets its contract: where the body ends is told by what stands at the offset, and past the byte of kind it starts.
 -- Assumes nothing.
-use Prim.Native.Nat.{ℕ, _+_, min}
-use mathlib.Core.Path.{_≡_, ap, _∙_}
 use borrow.Author.Needs.{needs}
-use Rattle.script.specs.Script.{endOf}
 use Rattle.script.proofs.Whole.{end-within, body-stretch}
 use Rattle.script.proofs.body_at.Statement.{statement}
 use Rattle.script.proofs.body_at.Tie as tie

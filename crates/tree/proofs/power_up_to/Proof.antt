@@ -1,7 +1,6 @@
 -- The test is computed as it is written.
 -- Assumes nothing.
 use Rattle.tree.specs.Tree.{powerUpTo}
-use borrow.Author.Needs.{needs}
 use Rattle.tree.proofs.power_up_to.Statement.{statement}
 use Rattle.tree.proofs.power_up_to.Tie as tie
 

@@ -1,6 +1,5 @@
 -- Two stores and a sweep, in the definition's order.
 -- Assumes nothing.
-use mathlib.Core.Path.{_≡_, refl, sym, _∙_}
 use Rattle.writes.specs.Carry.{closedBy}
 use borrow.Author.Needs.{needs}
 use Rattle.writes.proofs.close.Statement.{statement}

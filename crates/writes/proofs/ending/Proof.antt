@@ -1,6 +1,5 @@
 -- Each part is what its function says.
 -- Assumes nothing.
-use mathlib.Core.Path.{_≡_, refl, sym, _∙_}
 use Rattle.writes.proofs.ending.Statement.{statement}
 use Rattle.writes.proofs.ending.Tie as tie
 

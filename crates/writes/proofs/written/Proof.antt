@@ -1,6 +1,5 @@
 -- Each arm is its effect's own clause.
 -- Assumes nothing.
-use mathlib.Core.Path.{_≡_, refl, sym, _∙_}
 use borrow.Author.Needs.{needs}
 use Rattle.writes.proofs.written.Statement.{statement}
 use Rattle.writes.proofs.written.Tie as tie

@@ -1,7 +1,7 @@
 -- A word is below 2 ^ 32, so it has no bit at 32 or above.
 -- Assumes nothing.
-use mathlib.Core.Path.{_≡_, refl, sym, ap, _∙_}
-use borrow.Author.Tests.{eq-eqb, ne-eqb, le-leb, lt-leb, lt-ltb, le-ltb}
+use mathlib.Core.Path.{sym, ap}
+use borrow.Author.Tests.{lt-leb}
 use Prim.Native.Nat.{ℕ, _^_}
 use native.Mathlib.Nat.{one-mul, mod-eq-of-lt}
 use native.Mathlib.Omega.{arith}

@@ -1,7 +1,6 @@
 -- Each row is what its method says.
 -- Assumes nothing.
 use Rattle.header.specs.Header.{headerDamaged}
-use borrow.Author.Needs.{needs}
 use Rattle.header.proofs.Header.damaged.Statement.{statement}
 use Rattle.header.proofs.Header.damaged.Tie as tie
 

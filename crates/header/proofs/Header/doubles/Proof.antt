@@ -1,7 +1,7 @@
 -- A number divided by 0 is 0, and that is not above L.
 -- Assumes nothing.
-use mathlib.Core.Path.{_≡_, refl, sym, ap, _∙_}
-use borrow.Author.Tests.{eq-eqb, ne-eqb, le-leb, lt-leb, lt-ltb, le-ltb}
+use mathlib.Core.Path.{_≡_, refl, sym}
+use borrow.Author.Tests.{le-ltb}
 use mathlib.Core.Bool.{Bool, true, false, _&&_}
 use lib.Dec.{ltb}
 use Prim.Native.Nat.{_/_}

@@ -1,6 +1,5 @@
 -- The row is computed as it is written.
 -- Assumes nothing.
-use mathlib.Core.Path.{_≡_, refl, sym, _∙_}
 use Rattle.header.specs.Header.{isShort}
 use borrow.Author.Needs.{needs}
 use Rattle.header.proofs.Header.short.Statement.{statement}

@@ -1,7 +1,6 @@
 -- The row is computed as it is written.
 -- Assumes nothing.
 use Rattle.header.specs.Header.{sizeBroken}
-use borrow.Author.Needs.{needs}
 use Rattle.header.proofs.Header.size_broken.Statement.{statement}
 use Rattle.header.proofs.Header.size_broken.Tie as tie
 

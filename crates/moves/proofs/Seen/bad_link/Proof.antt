@@ -1,6 +1,5 @@
 -- The code computes what the definition says.
 -- Assumes nothing.
-use mathlib.Core.Path.{_≡_, refl, sym, _∙_}
 use Rattle.moves.specs.Moves.{badLink}
 use borrow.Author.Needs.{needs}
 use Rattle.moves.proofs.Seen.bad_link.Statement.{statement}

@@ -1,9 +1,9 @@
 -- A difference that wraps by 1 is a sum that wraps by 2 ^ 32 - 1.
 -- Assumes nothing.
-use mathlib.Core.Path.{_≡_, refl}
+use mathlib.Core.Path.{_≡_}
 use native.Mathlib.Omega.{arith}
 use Rattle.moves.specs.Moves.{countDown, d6}
-use mathlib.Core.Path.{_≡_, refl, sym, _∙_}
+use mathlib.Core.Path.{_≡_}
 use Rattle.moves.specs.Moves.{d6}
 use Rattle.moves.proofs.Seen.d6.Statement.{statement}
 use Rattle.moves.proofs.Seen.d6.Tie as tie

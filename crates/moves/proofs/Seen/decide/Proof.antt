@@ -1,7 +1,7 @@
 -- At a place that is known the definition is that place's.
 -- Assumes nothing.
 use borrow.Author.Tests.{ne-eqb}
-use mathlib.Core.Path.{_≡_, refl, sym, _∙_}
+use mathlib.Core.Path.{_∙_}
 use Rattle.choice.specs.Choice.{pick}
 use Rattle.moves.specs.Moves.{decided, decidedAt}
 use Rattle.moves.proofs.Laws.{here}

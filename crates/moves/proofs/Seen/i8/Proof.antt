@@ -1,6 +1,6 @@
 -- The code computes what the definition says.
 -- Assumes nothing.
-use mathlib.Core.Path.{_≡_, refl, sym, _∙_}
+use mathlib.Core.Path.{refl}
 use Rattle.moves.specs.Moves.{i8}
 use Rattle.moves.proofs.Seen.i8.Statement.{statement}
 use Rattle.moves.proofs.Seen.i8.Tie as tie

@@ -1,6 +1,5 @@
 -- The code computes what the definition says.
 -- Assumes nothing.
-use mathlib.Core.Path.{_≡_, refl, sym, _∙_}
 use Rattle.moves.specs.Moves.{sz}
 use Rattle.moves.proofs.Seen.sz.Statement.{statement}
 use Rattle.moves.proofs.Seen.sz.Tie as tie

@@ -1,6 +1,6 @@
 -- The verdict says which way the definition goes.
 -- Assumes nothing.
-use mathlib.Core.Path.{_≡_, refl, sym, _∙_}
+use mathlib.Core.Path.{_≡_, sym, _∙_}
 use Rattle.prepare.specs.Prepare.{prepared, freshHeader}
 use Prim.Native.Nat.{_*_, _%_}
 use native.Mathlib.Nat.{mod-eq-of-lt}

@@ -1,6 +1,6 @@
 -- Both tests are the definition's own.
 -- Assumes nothing.
-use Rattle.record.specs.Worker.{holds, heldKey, heldDummy}
+use Rattle.record.specs.Worker.{heldKey, heldDummy}
 use Rattle.record.proofs.Worker.holds.Statement.{statement}
 use Rattle.record.proofs.Worker.holds.Tie as tie
 

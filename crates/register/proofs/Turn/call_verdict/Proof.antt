@@ -1,6 +1,6 @@
 -- Each test that was passed says which way the definition goes.
 -- Assumes nothing.
-use mathlib.Core.Path.{_≡_, refl, sym, _∙_}
+use mathlib.Core.Path.{refl, sym, _∙_}
 use borrow.Author.Tests.{le-leb, lt-leb}
 use Rattle.choice.proofs.Auto.{then-is, else-is}
 use Rattle.register.specs.Calls.{callVerdict}

@@ -1,6 +1,5 @@
 -- The place says whether cur's split key is read.
 -- Assumes nothing.
-use mathlib.Core.Path.{_≡_, refl, sym, _∙_}
 use Rattle.register.specs.Step.{splitFor}
 use Rattle.words.specs.Words.{word}
 use borrow.Author.Tests.{eq-eqb, ne-eqb}

@@ -1,6 +1,6 @@
 -- The first rows refuse, or the later ones decide, as in the definition.
 -- Assumes nothing.
-use mathlib.Core.Path.{_≡_, refl, sym, ap, _∙_}
+use mathlib.Core.Path.{refl, sym, ap, _∙_}
 use borrow.Author.Tests.{eq-eqb, ne-eqb, lt-ltb, le-ltb}
 use Rattle.choice.proofs.Auto.{then-is, else-is}
 use Rattle.register.specs.Calls.{startVerdict, callVerdict}

@@ -1,6 +1,6 @@
 -- At a place that is known the definition is that place's.
 -- Assumes nothing.
-use mathlib.Core.Path.{_≡_, refl, sym, _∙_}
+use mathlib.Core.Path.{refl, sym, _∙_}
 use Rattle.register.specs.Step.{wordFor, wordAt}
 use Rattle.choice.specs.Choice.{pick}
 use borrow.Author.Tests.{ne-eqb}

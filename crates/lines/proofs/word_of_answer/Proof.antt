@@ -2,8 +2,8 @@
 -- Assumes nothing.
 use Rattle.choice.proofs.Auto.{choices}
 use Rattle.lines.specs.Words.{wordOfAnswer}
-use Rattle.lines.proofs.answer_word.Statement.{statement}
-use Rattle.lines.proofs.answer_word.Tie as tie
+use Rattle.lines.proofs.word_of_answer.Statement.{statement}
+use Rattle.lines.proofs.word_of_answer.Tie as tie
 
 returns : tie.Need-returns
 unfolding wordOfAnswer
@@ -25,8 +25,8 @@ returns-5 : tie.Need-returns-5
 unfolding wordOfAnswer
 returns-5 c = search choices
 
-pub answer-word-spec : {M : Type 1} → statement M
-answer-word-spec =
+pub word-of-answer-spec : {M : Type 1} → statement M
+word-of-answer-spec =
     tie.close
     (tie.spec
     returns

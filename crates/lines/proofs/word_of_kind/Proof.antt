@@ -2,8 +2,8 @@
 -- Assumes nothing.
 use Rattle.choice.proofs.Auto.{choices}
 use Rattle.lines.specs.Words.{wordOfKind}
-use Rattle.lines.proofs.kind_word.Statement.{statement}
-use Rattle.lines.proofs.kind_word.Tie as tie
+use Rattle.lines.proofs.word_of_kind.Statement.{statement}
+use Rattle.lines.proofs.word_of_kind.Tie as tie
 
 returns : tie.Need-returns
 unfolding wordOfKind
@@ -21,8 +21,8 @@ returns-4 : tie.Need-returns-4
 unfolding wordOfKind
 returns-4 c = search choices
 
-pub kind-word-spec : {M : Type 1} → statement M
-kind-word-spec =
+pub word-of-kind-spec : {M : Type 1} → statement M
+word-of-kind-spec =
     tie.close
     (tie.spec
     returns
