@@ -2,6 +2,7 @@
 ghost use mathlib.Core.Path.{_≡_};
 ghost use Rattle.moves.specs.Moves.{tb, b2, b4, b8};
 use crate::Seen;
+use crate::going;
 use acts::Effect;
 use acts::Move;
 use names::Answer;
@@ -19,19 +20,11 @@ impl Seen {
         }
         if self.word == 0 {
             x.making = x.wanted;
-            x.place = place::B2;
-            return Move::Going {
-                worker: x,
-                effect: Effect::Nothing,
-            };
+            return going(x, place::B2);
         }
         x.errand = errand::KEY;
         x.start = self.word;
-        x.place = place::F1;
-        Move::Going {
-            worker: x,
-            effect: Effect::Nothing,
-        }
+        going(x, place::F1)
     }
 
     pub(super) fn b2(self) -> Move
@@ -49,11 +42,7 @@ impl Seen {
             };
         }
         x.start = self.word;
-        x.place = place::B4;
-        Move::Going {
-            worker: x,
-            effect: Effect::Nothing,
-        }
+        going(x, place::B4)
     }
 
     pub(super) fn b4(self) -> Move

@@ -2,6 +2,7 @@
 ghost use mathlib.Core.Path.{_≡_};
 ghost use Rattle.moves.specs.Moves.{l2, placed, i1, sz, i8, i9, i10, d4a, d4b, d6};
 use crate::Seen;
+use crate::going;
 use crate::held_for;
 use crate::is_to;
 use crate::remainder;
@@ -79,11 +80,7 @@ impl Seen {
     {
         let mut x = self.worker;
         x.wanted = remainder(x.key, self.header.size);
-        x.place = place::TB;
-        Move::Going {
-            worker: x,
-            effect: Effect::Nothing,
-        }
+        going(x, place::TB)
     }
 
     pub(super) fn i8(self) -> Move
@@ -91,11 +88,7 @@ impl Seen {
     {
         let mut x = self.worker;
         x.size = self.header.size;
-        x.place = place::I9;
-        Move::Going {
-            worker: x,
-            effect: Effect::Nothing,
-        }
+        going(x, place::I9)
     }
 
     pub(super) fn i9(self) -> Move
@@ -152,11 +145,7 @@ impl Seen {
             };
         }
         x.errand = errand::KEY;
-        x.place = place::F1;
-        Move::Going {
-            worker: x,
-            effect: Effect::Nothing,
-        }
+        going(x, place::F1)
     }
 
     pub(super) fn d4b(self) -> Move
@@ -182,11 +171,7 @@ impl Seen {
             };
         }
         x.errand = errand::EXTRA;
-        x.place = place::F1;
-        Move::Going {
-            worker: x,
-            effect: Effect::Nothing,
-        }
+        going(x, place::F1)
     }
 
     pub(super) fn d6(self) -> Move

@@ -1,8 +1,9 @@
 // What one step does, place by place, decided from numbers alone: the header, the record and the word that the step read.
 ghost use mathlib.Core.Path.{_≡_};
 ghost use Prim.Native.Nat.{_%_};
+ghost use Rattle.record.specs.Fields.{to};
 ghost use Rattle.words.specs.Words.{isTo};
-ghost use Rattle.moves.specs.Moves.{badLink, wantOf, heldFor, notFound, found, foundKey, comes, f1, f2, f3, judged, f4, decided};
+ghost use Rattle.moves.specs.Moves.{on, badLink, wantOf, heldFor, notFound, found, foundKey, comes, f1, f2, f3, judged, f4, decided};
 use acts::Effect;
 use acts::Move;
 use header::Header;
@@ -60,6 +61,17 @@ fn held_for(x: Worker) -> u32
     x.held
 }
 
+// The operation goes on at another place, and nothing is written.
+fn going(mut x: Worker, place: u32) -> Move
+    ensures { λ r. ⌜ r ≡ on (to place x) ⌝ }
+{
+    x.place = place;
+    Move::Going {
+        worker: x,
+        effect: Effect::Nothing,
+    }
+}
+
 // The search ended without the wanted split key.
 fn not_found(mut x: Worker, effect: Effect) -> Move
     ensures { λ r. ⌜ r ≡ notFound x effect ⌝ }
@@ -83,11 +95,7 @@ fn found(mut x: Worker) -> Move
     ensures { λ r. ⌜ r ≡ found x ⌝ }
 {
     if x.errand == errand::EXTRA {
-        x.place = place::D6;
-        return Move::Going {
-            worker: x,
-            effect: Effect::Nothing,
-        };
+        return going(x, place::D6);
     }
     if x.errand == errand::KEY {
         return found_key(x);
@@ -123,11 +131,7 @@ fn found_key(mut x: Worker) -> Move
             effect: Effect::Nothing,
         };
     }
-    x.place = place::D4A;
-    Move::Going {
-        worker: x,
-        effect: Effect::Nothing,
-    }
+    going(x, place::D4A)
 }
 
 // The search comes to cur, after prev: the end of the chain, or F2.
@@ -170,11 +174,7 @@ impl Seen {
         }
         x.next = self.word / 2;
         x.marked = self.word % 2 == 1;
-        x.place = place::F3;
-        Move::Going {
-            worker: x,
-            effect: Effect::Nothing,
-        }
+        going(x, place::F3)
     }
 
     fn f3(self) -> Move
@@ -187,11 +187,7 @@ impl Seen {
         if is_to(self.word, x.cur) {
             return self.judged();
         }
-        x.place = place::F1;
-        Move::Going {
-            worker: x,
-            effect: Effect::Nothing,
-        }
+        going(x, place::F1)
     }
 
     // prev's link was unmarked with next cur: cur was marked at F2, or its split key is compared.
@@ -200,11 +196,7 @@ impl Seen {
     {
         let mut x = self.worker;
         if x.marked {
-            x.place = place::F4;
-            return Move::Going {
-                worker: x,
-                effect: Effect::Nothing,
-            };
+            return going(x, place::F4);
         }
         if x.cur == 0 {
             return Move::Damaged;
@@ -238,11 +230,7 @@ impl Seen {
             };
             return comes(x, x.prev, x.next, unlink);
         }
-        x.place = place::F1;
-        Move::Going {
-            worker: x,
-            effect: Effect::Nothing,
-        }
+        going(x, place::F1)
     }
 
     // One step's decision, at the record's place.

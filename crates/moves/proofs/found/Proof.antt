@@ -7,10 +7,13 @@ use Rattle.moves.specs.Moves.{found}
 use Rattle.moves.proofs.found.Statement.{statement}
 use Rattle.moves.proofs.found.Tie as tie
 
+going-requires : tie.Need-going-requires
+going-requires c κs = tt
+
 returns : tie.Need-returns
 unfolding found
-returns c = then-is _ _ _ _ (eq-eqb _ _ (c .if1 .taken))
-    (refl)
+returns c = then-is _ _ _ _ (eq-eqb _ _ (c .before .if1 .taken))
+    (c .going .ensures)
 
 found-key-requires : tie.Need-found-key-requires
 found-key-requires c κs = tt
@@ -36,4 +39,4 @@ returns-4 c = else-is _ _ _ _ (ne-eqb _ _ (c .before .before .before .before .if
     (refl)))
 
 pub found-spec : {M : Type 1} → statement M
-found-spec = tie.close (tie.spec returns found-key-requires returns-2 returns-3 returns-4)
+found-spec = tie.close (tie.spec going-requires returns found-key-requires returns-2 returns-3 returns-4)

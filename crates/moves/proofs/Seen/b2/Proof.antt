@@ -28,11 +28,14 @@ returns-2 c = else-is _ _ _ _ (rw (← c .before .before .before .before .before
     (then-is _ _ _ _ (eq-eqb _ _ (c .before .if2 .taken))
     (rw (c .parent .ensures)))
 
+going-requires : tie.Need-going-requires
+going-requires c κs = tt
+
 returns-3 : tie.Need-returns-3
 unfolding b2
-returns-3 c = else-is _ _ _ _ (rw (← c .before .before .before .before .nodes .ensures) ((le-ltb _ _ (c .before .before .if1 .left))))
-    (else-is _ _ _ _ (ne-eqb _ _ (c .if2 .left))
-    (refl))
+returns-3 c = else-is _ _ _ _ (rw (← c .before .before .before .before .before .nodes .ensures) ((le-ltb _ _ (c .before .before .before .if1 .left))))
+    (else-is _ _ _ _ (ne-eqb _ _ (c .before .if2 .left))
+    (c .going .ensures))
 
 pub b2-spec : {M : Type 1} → statement M
-b2-spec = tie.close (tie.spec nodes-requires cast-if1 returns parent-requires returns-2 returns-3)
+b2-spec = tie.close (tie.spec nodes-requires cast-if1 returns parent-requires returns-2 going-requires returns-3)

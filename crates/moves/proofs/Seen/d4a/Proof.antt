@@ -23,11 +23,14 @@ returns-2 c = else-is _ _ _ _ (rw (← c .before .before .before .bad-link .ensu
     (then-is _ _ _ _ (sym (c .before .is-to .ensures) ∙ c .if2 .taken)
     (refl))
 
+going-requires : tie.Need-going-requires
+going-requires c κs = tt
+
 returns-3 : tie.Need-returns-3
 unfolding d4a
-returns-3 c = else-is _ _ _ _ (rw (← c .before .before .before .bad-link .ensures) (c .before .before .if1 .left))
-    (else-is _ _ _ _ (sym (c .before .is-to .ensures) ∙ c .if2 .left)
-    (refl))
+returns-3 c = else-is _ _ _ _ (rw (← c .before .before .before .before .bad-link .ensures) (c .before .before .before .if1 .left))
+    (else-is _ _ _ _ (sym (c .before .before .is-to .ensures) ∙ c .before .if2 .left)
+    (c .going .ensures))
 
 pub d4a-spec : {M : Type 1} → statement M
-d4a-spec = tie.close (tie.spec bad-link-requires returns is-to-requires returns-2 returns-3)
+d4a-spec = tie.close (tie.spec bad-link-requires returns is-to-requires returns-2 going-requires returns-3)

@@ -32,12 +32,14 @@ returns-3 c = else-is _ _ _ _ (rw (← c .before .before .before .before .before
     (else-is _ _ _ _ (ne-eqb _ _ (c .if3 .left))
     (refl)))
 
+going-requires : tie.Need-going-requires
+going-requires c κs = tt
+
 returns-4 : tie.Need-returns-4
 unfolding d4b
-returns-4 c = else-is _ _ _ _ (rw (← c .before .before .before .bad-link .ensures) (c .before .before .if1 .left))
-    (else-is _ _ _ _ (sym (c .before .is-to .ensures) ∙ c .if2 .left)
-    (refl))
+returns-4 c = else-is _ _ _ _ (rw (← c .before .before .before .before .bad-link .ensures) (c .before .before .before .if1 .left))
+    (else-is _ _ _ _ (sym (c .before .before .is-to .ensures) ∙ c .before .if2 .left)
+    (c .going .ensures))
 
 pub d4b-spec : {M : Type 1} → statement M
-d4b-spec =
-    tie.close (tie.spec bad-link-requires returns is-to-requires returns-2 returns-3 returns-4)
+d4b-spec = tie.close (tie.spec bad-link-requires returns is-to-requires returns-2 returns-3 going-requires returns-4)

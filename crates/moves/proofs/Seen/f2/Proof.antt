@@ -14,10 +14,13 @@ unfolding f2
 returns c = then-is _ _ _ _ (rw (← c .before .bad-link .ensures) (c .if1 .taken))
     (refl)
 
+going-requires : tie.Need-going-requires
+going-requires c κs = tt
+
 returns-2 : tie.Need-returns-2
 unfolding f2
-returns-2 c = else-is _ _ _ _ (rw (← c .before .before .before .bad-link .ensures) (c .before .before .if1 .left))
-    (refl)
+returns-2 c = else-is _ _ _ _ (rw (← c .before .before .before .before .bad-link .ensures) (c .before .before .before .if1 .left))
+    (c .going .ensures)
 
 pub f2-spec : {M : Type 1} → statement M
-f2-spec = tie.close (tie.spec bad-link-requires returns returns-2)
+f2-spec = tie.close (tie.spec bad-link-requires returns going-requires returns-2)

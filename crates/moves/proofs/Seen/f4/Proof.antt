@@ -35,20 +35,14 @@ returns-3 c = else-is _ _ _ _ (rw (← c .before .before .before .before .before
     (else-is _ _ _ _ (ne-eqb _ _ (c .before .if3 .left))
     (c .comes .ensures)))
 
+going-requires : tie.Need-going-requires
+going-requires c κs = tt
+
 returns-4 : tie.Need-returns-4
 unfolding f4
-returns-4 c = else-is _ _ _ _ (rw (← c .before .before .before .bad-link .ensures) (c .before .before .if1 .left))
-    (else-is _ _ _ _ (sym (c .before .is-to .ensures) ∙ c .if2 .left)
-    (refl))
+returns-4 c = else-is _ _ _ _ (rw (← c .before .before .before .before .bad-link .ensures) (c .before .before .before .if1 .left))
+    (else-is _ _ _ _ (sym (c .before .before .is-to .ensures) ∙ c .before .if2 .left)
+    (c .going .ensures))
 
 pub f4-spec : {M : Type 1} → statement M
-f4-spec =
-    tie.close
-    (tie.spec
-    bad-link-requires
-    returns
-    is-to-requires
-    returns-2
-    comes-requires
-    returns-3
-    returns-4)
+f4-spec = tie.close (tie.spec bad-link-requires returns is-to-requires returns-2 comes-requires returns-3 going-requires returns-4)

@@ -7,10 +7,13 @@ use Rattle.moves.specs.Moves.{judged}
 use Rattle.moves.proofs.Seen.judged.Statement.{statement}
 use Rattle.moves.proofs.Seen.judged.Tie as tie
 
+going-requires : tie.Need-going-requires
+going-requires c κs = tt
+
 returns : tie.Need-returns
 unfolding judged
-returns c = then-is _ _ _ _ (c .if1 .taken)
-    (refl)
+returns c = then-is _ _ _ _ (c .before .if1 .taken)
+    (c .going .ensures)
 
 returns-2 : tie.Need-returns-2
 unfolding judged
@@ -57,6 +60,7 @@ pub judged-spec : {M : Type 1} → statement M
 judged-spec =
     tie.close
     (tie.spec
+    going-requires
     returns
     returns-2
     want-of-requires

@@ -19,17 +19,23 @@ unfolding tb
 returns c = then-is _ _ _ _ (rw (← c .before .before .nodes .ensures) ((lt-ltb _ _ (c .if1 .taken))))
     (refl)
 
+going-requires : tie.Need-going-requires
+going-requires c κs = tt
+
 returns-2 : tie.Need-returns-2
 unfolding tb
-returns-2 c = else-is _ _ _ _ (rw (← c .before .before .before .before .nodes .ensures) ((le-ltb _ _ (c .before .before .if1 .left))))
-    (then-is _ _ _ _ (eq-eqb _ _ (c .if2 .taken))
-    (refl))
+returns-2 c = else-is _ _ _ _ (rw (← c .before .before .before .before .before .nodes .ensures) ((le-ltb _ _ (c .before .before .before .if1 .left))))
+    (then-is _ _ _ _ (eq-eqb _ _ (c .before .if2 .taken))
+    (c .going .ensures))
+
+going-requires-2 : tie.Need-going-requires-2
+going-requires-2 c κs = tt
 
 returns-3 : tie.Need-returns-3
 unfolding tb
-returns-3 c = else-is _ _ _ _ (rw (← c .before .before .before .before .nodes .ensures) ((le-ltb _ _ (c .before .before .if1 .left))))
-    (else-is _ _ _ _ (ne-eqb _ _ (c .if2 .left))
-    (refl))
+returns-3 c = else-is _ _ _ _ (rw (← c .before .before .before .before .before .nodes .ensures) ((le-ltb _ _ (c .before .before .before .if1 .left))))
+    (else-is _ _ _ _ (ne-eqb _ _ (c .before .if2 .left))
+    (c .going2 .ensures))
 
 pub tb-spec : {M : Type 1} → statement M
-tb-spec = tie.close (tie.spec nodes-requires cast-if1 returns returns-2 returns-3)
+tb-spec = tie.close (tie.spec nodes-requires cast-if1 returns going-requires returns-2 going-requires-2 returns-3)
