@@ -12,9 +12,11 @@ use Rattle.crew.specs.Crew.{Left}
 use Rattle.script.specs.Script.{entryAt, bodyAt}
 use Rattle.text.specs.Text.{Laid}
 use Rattle.text.proofs.Laying.{laid-on, laid-as}
+use Rattle.names.specs.declared.Answer.{Answer}
 use Rattle.replay.specs.declared.Operation.{Operation}
+use Rattle.replay.specs.declared.Stand.{Stand}
 use Rattle.replay.specs.Play.{workerOf, numberIn, called, operationOf, callLine}
-use Rattle.replay.specs.Replay.{kindOf, nextOf, isPlayed, closed, followed}
+use Rattle.replay.specs.Replay.{kindOf, nextOf, standOf, isPlayed, closed, followed}
 
 -- a text laid here is another text laid there: whatever the one leaves, the other does
 abbrev pub Leads : List ℕ → ℕ → List ℕ → List ℕ → ℕ → List ℕ → Type 0
@@ -26,7 +28,7 @@ goes input turns offset = ltb 0 turns && isPlayed (kindOf (entryAt input offset)
 
 -- the call of the record at an offset
 abbrev pub nextCall : List ℕ → ℕ → Left → Left
-nextCall input offset l = let kind = kindOf (entryAt input offset) in called kind (workerOf (bodyAt input offset)) (numberIn kind (bodyAt input offset)) l
+nextCall input offset l = let kind = kindOf (entryAt input offset) in called kind (workerOf (bodyAt input offset)) (numberIn kind (bodyAt input offset)) (l .called .header) (l .workers) (l .nodes) (l .buckets)
 
 -- nothing goes where one test fails
 pub and-false : (b : Bool) → b && false ≡ false
@@ -36,7 +38,7 @@ and-false false = refl
 -- one record more
 pub followed-on : (input : List ℕ) (turns offset : ℕ) (l : Left) → goes input turns offset ≡ true
     → followed input turns offset l
-    ≡ callLine (operationOf (workerOf (bodyAt input offset)) (l .workers)) (nextCall input offset l .called) offset ++ followed input (turns - 1) (nextOf (entryAt input offset)) (nextCall input offset l)
+    ≡ callLine (operationOf (workerOf (bodyAt input offset)) (l .workers)) (nextCall input offset l .called .answer) (nextCall input offset l .called .steps) offset ++ followed input (turns - 1) (nextOf (entryAt input offset)) (nextCall input offset l)
 unfolding followed
 followed-on input zero offset l e = absurd (false≢true e)
 followed-on input (suc turns) offset l e =
@@ -52,11 +54,11 @@ followed-stop input (suc turns) offset l e = pick-false (isPlayed (kindOf (entry
 
 -- a record whose call was made and whose line was laid leads on
 module _ (input : List ℕ) (turns offset : ℕ) (l : Left) {out out₀ whole : List ℕ} {at at₀ : ℕ} where
-  pub leads-on : {kind w number next place : ℕ} {body exit : List ℕ} {o : Operation} {m : Left} → Leads out at (followed input turns offset l) out₀ at₀ whole → goes input turns offset ≡ true
-      → kind ≡ kindOf (entryAt input offset) → body ≡ bodyAt input offset → w ≡ workerOf body → number ≡ numberIn kind body → next ≡ nextOf (entryAt input offset)
-      → o ≡ operationOf w (l .workers) → m ≡ called kind w number l → Laid out at (callLine o (m .called) offset) exit place
-      → Leads exit place (followed input (turns - 1) next m) out₀ at₀ whole
-  leads-on {kind} {w} {number} {next} {place} {body} {exit} {o} {m} lead test k b v u n who is line end stop h = lead end stop (laid-as (sym turn) (laid-on line h))
+  pub leads-on : {w number place : ℕ} {s : Stand} {body exit : List ℕ} {o : Operation} {answer : Answer} {m : Left} → Leads out at (followed input turns offset l) out₀ at₀ whole → goes input turns offset ≡ true
+      → s ≡ standOf (entryAt input offset) → body ≡ bodyAt input offset → w ≡ workerOf body → number ≡ numberIn (s .kind) body → o ≡ operationOf w (l .workers)
+      → m ≡ called (s .kind) w number (l .called .header) (l .workers) (l .nodes) (l .buckets) → answer ≡ m .called .answer → Laid out at (callLine o answer (m .called .steps) offset) exit place
+      → Leads exit place (followed input (turns - 1) (s .next) m) out₀ at₀ whole
+  leads-on {w} {number} {place} {s} {body} {exit} {o} {answer} {m} lead test k b v u who is a line end stop h = lead end stop (laid-as (sym turn) (laid-on line h))
     where
-      turn : followed input turns offset l ≡ callLine o (m .called) offset ++ followed input (turns - 1) next m
-      turn = rw (who, is, u, v, k, b, n) (followed-on input turns offset l test)
+      turn : followed input turns offset l ≡ callLine o answer (m .called .steps) offset ++ followed input (turns - 1) (s .next) m
+      turn = rw (a, who, is, u, v, k, b) (followed-on input turns offset l test)

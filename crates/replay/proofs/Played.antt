@@ -13,6 +13,7 @@ use Rattle.choice.proofs.Auto.{pick-true, pick-false}
 use Rattle.choice.proofs.Cases.{both}
 use Rattle.choice.proofs.Telling.{clears-lt, clears-or}
 use Rattle.names.specs.Names.{numberOf}
+use Rattle.names.specs.declared.Answer.{Answer}
 use Rattle.names.specs.declared.Answer.the-variants.{Limit, Short}
 use Rattle.header.specs.declared.Header.{Header}
 use Rattle.header.specs.Header.{outside, limitBroken}
@@ -24,7 +25,6 @@ use Rattle.names.specs.declared.Verdict.the-variants.{Refused}
 use Rattle.prepare.specs.Prepare.{freshHeader, prepareVerdict}
 use Rattle.prepare.specs.Prepare.{prepared as register-prepared}
 use Rattle.crew.specs.Crew.{Left, tooFewFor, prepareAt}
-use Rattle.crew.specs.declared.Called.{Called}
 use Rattle.lines.specs.Lines.{kindNamed, endedLine, refusedLine}
 use Rattle.lines.proofs.Joined.{ended-none}
 use Rattle.replay.specs.declared.Operation.{Operation}
@@ -36,11 +36,11 @@ refusal-stops : (n : ℕ) → within 10 17 n ≡ true → eqb n 0 ≡ false
 refusal-stops zero e = sym e
 refusal-stops (suc n) e = ne-eqb (suc n) 0 (λ z. omega arith)
 
-pub refused-line : (o : Operation) (c : Called) (offset n : ℕ) → n ≡ numberOf (c .answer) → within 10 17 n ≡ true → refusedLine n offset ≡ callLine o c offset
+pub refused-line : (o : Operation) (a : Answer) (steps offset n : ℕ) → n ≡ numberOf a → within 10 17 n ≡ true → refusedLine n offset ≡ callLine o a steps offset
 unfolding callLine
-refused-line o c offset n e r = ap (λ (k : ℕ). refusedLine k offset) e ∙ (rw e at line)
+refused-line o a steps offset n e r = ap (λ (k : ℕ). refusedLine k offset) e ∙ (rw e at line)
   where
-    line : refusedLine n offset ≡ pick (eqb n 0) [] (pick (within 10 17 n) (refusedLine n offset) (endedLine (o .worker) (o .kind) (o .key) n (c .steps)))
+    line : refusedLine n offset ≡ pick (eqb n 0) [] (pick (within 10 17 n) (refusedLine n offset) (endedLine (o .worker) (o .kind) (o .key) n steps))
     line = sym (pick-false (eqb n 0) _ _ (refusal-stops n r) ∙ pick-true (within 10 17 n) _ _ r)
 
 -- going on has no word, so its line is nothing
@@ -52,9 +52,9 @@ not-refused : (w kind key n steps : ℕ) (line : List ℕ) → within 10 17 n �
 not-refused w kind key zero steps line r = sym (ended-none w kind key 0 steps (and-false (kindNamed kind))) ∙ sym (pick-true (eqb 0 0) _ _ refl)
 not-refused w kind key (suc n) steps line r = sym (pick-false (eqb (suc n) 0) _ _ (ne-eqb (suc n) 0 (λ z. omega arith)) ∙ pick-false (within 10 17 (suc n)) _ _ r)
 
-pub other-line : (o : Operation) (c : Called) (offset n : ℕ) → n ≡ numberOf (c .answer) → within 10 17 n ≡ false → endedLine (o .worker) (o .kind) (o .key) (numberOf (c .answer)) (c .steps) ≡ callLine o c offset
+pub other-line : (o : Operation) (a : Answer) (steps offset n : ℕ) → n ≡ numberOf a → within 10 17 n ≡ false → endedLine (o .worker) (o .kind) (o .key) (numberOf a) steps ≡ callLine o a steps offset
 unfolding callLine
-other-line o c offset n e r = rw e at (not-refused (o .worker) (o .kind) (o .key) n (c .steps) (refusedLine n offset) r)
+other-line o a steps offset n e r = rw e at (not-refused (o .worker) (o .kind) (o .key) n steps (refusedLine n offset) r)
 
 -- ---- an exponent that is not outside 1 to 10
 pub exponent-fits : (e : ℕ) → outside 1 10 e ≡ false → e < 32

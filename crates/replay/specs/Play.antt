@@ -1,19 +1,21 @@
 -- One record of a schedule: the call that it asks for, and the line that the call prints.
 use Prim.Native.Nat.{ℕ, _-_, _^_}
-use mathlib.Core.Bool.{Bool}
+use mathlib.Core.Bool.{Bool, _&&_}
 use mathlib.Core.List.{List, []}
-use lib.Dec.{leb, eqb}
+use lib.Dec.{ltb, leb, eqb}
 use lib.ListN.{getD, replicate}
 use Rattle.choice.specs.Choice.{pick}
 use Rattle.names.specs.Names.{numberOf}
+use Rattle.names.specs.declared.Answer.{Answer}
 use Rattle.names.specs.declared.Answer.the-variants.{Going}
 use Rattle.header.specs.declared.Header.{Header}
 use Rattle.header.specs.Header.{outside}
 use Rattle.record.specs.declared.Worker.{Worker}
 use Rattle.record.specs.Worker.{idle, within}
 use Rattle.prepare.specs.declared.Limits.{Limits}
-use Rattle.crew.specs.declared.Called.{Called}
-use Rattle.crew.specs.Crew.{Left, left, going, prepareAt, startAt, stepsAt}
+use Rattle.crew.specs.declared.Call.{Call}
+use Rattle.crew.specs.declared.Call.the-variants.{Start, Steps}
+use Rattle.crew.specs.Crew.{Left, left, refused, going, prepareAt, serveAt}
 use Rattle.numbers.specs.Numbers.{littleEndian}
 use Rattle.lines.specs.Lines.{endedLine, refusedLine}
 use Rattle.replay.specs.declared.Operation.{Operation}
@@ -42,16 +44,18 @@ workerOf body = getD body 0 0
 unfoldable pub numberIn : ℕ → List ℕ → ℕ
 numberIn kind body = pick (leb kind 3) (littleEndian 4 body 1) (pick (eqb kind 4) 1 (getD body 1 0))
 
--- no step: going on, and all as it was
-abbrev pub stayed : Left → Left
-stayed l = left (record { answer = Going; steps = 0; header = l .called .header }) (l .workers) (l .nodes) (l .buckets)
+-- no step: 05 with n 0
+abbrev pub noStep : ℕ → ℕ → Bool
+noStep kind number = ltb 3 kind && eqb number 0
 
--- the call, on what the last call left: 01, 02, 03 a start; 04, 05 up to so many steps, ending after the first whose answer isn't 0
-unfoldable pub called : ℕ → ℕ → ℕ → Left → Left
-called kind w number l =
-    let h = l .called .header in
-    pick (leb kind 3) (startAt h (l .workers) w kind number (l .nodes) (l .buckets))
-    (pick (eqb number 0) (stayed l) (stepsAt h (l .workers) w (number - 1) (l .nodes) (l .buckets)))
+-- the call: 01, 02, 03 a start; 04, 05 up to so many steps, ending after the first whose answer isn't 0
+unfoldable pub callOf : ℕ → ℕ → Call
+callOf kind number = pick (leb kind 3) (Start kind number) (Steps (number - 1))
+
+-- what it leaves; no step is no call: going on, and all as it was
+unfoldable pub called : ℕ → ℕ → ℕ → Header → List Worker → List ℕ → List ℕ → Left
+called kind w number h ws ns bs =
+    pick (noStep kind number) (left (refused Going h) ws ns bs) (serveAt h ws w (callOf kind number) ns bs)
 
 -- ---- the line of a call
 -- whose operation it is: the worker, and the kind and key that its record had as the call began
@@ -65,8 +69,8 @@ abbrev pub refusal : ℕ → Bool
 refusal number = within 10 17 number
 
 -- nothing while the operation goes on; `refused number offset`; or, at its end, `worker kind key answer steps`
-unfoldable pub callLine : Operation → Called → ℕ → List ℕ
-callLine o c offset =
-    let number = numberOf (c .answer) in
-    pick (going (c .answer)) []
-    (pick (refusal number) (refusedLine number offset) (endedLine (o .worker) (o .kind) (o .key) number (c .steps)))
+unfoldable pub callLine : Operation → Answer → ℕ → ℕ → List ℕ
+callLine o answer steps offset =
+    let number = numberOf answer in
+    pick (going answer) []
+    (pick (refusal number) (refusedLine number offset) (endedLine (o .worker) (o .kind) (o .key) number steps))

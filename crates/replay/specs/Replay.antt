@@ -72,19 +72,18 @@ followed input (suc turns) offset l =
     let e = entryAt input offset in
     let body = bodyAt input offset in
     let w = workerOf body in
-    let m = called (kindOf e) w (numberIn (kindOf e) body) l in
+    let m = called (kindOf e) w (numberIn (kindOf e) body) (l .called .header) (l .workers) (l .nodes) (l .buckets) in
     pick (isPlayed (kindOf e))
-    (callLine (operationOf w (l .workers)) (m .called) offset ++ followed input turns (nextOf e) m)
+    (callLine (operationOf w (l .workers)) (m .called .answer) (m .called .steps) offset ++ followed input turns (nextOf e) m)
     (closed input offset (l .called .header) (l .nodes))
 
 -- ---- the first record: `register M K W L`, and the records after it; a refused 00 stops the run
 abbrev pub firstLine : Header → List ℕ
 firstLine h = registerLine (h .m) (h .k) (h .w) (h .l)
 
-unfoldable pub begun : List ℕ → Left → List ℕ
-begun input l =
-    pick (going (l .called .answer))
-    (firstLine (l .called .header) ++ followed input (length input) (nextOf (entryAt input 0)) l)
+unfoldable pub begun : List ℕ → ℕ → Left → List ℕ
+begun input next l =
+    pick (going (l .called .answer)) (firstLine (l .called .header) ++ followed input (length input) next l)
     (refusedLine (numberOf (l .called .answer)) 0)
 
 -- ---- the bytes of a schedule to the bytes of the text that it prints
@@ -96,5 +95,5 @@ unfoldable pub printed : List ℕ → List ℕ
 printed input =
     pick (ltb LONGEST (length input)) (refusedLine 33 LONGEST)
     (pick (eqb (kindOf (entryAt input 0)) 0)
-    (begun input (prepared (bodyAt input 0) (replicate 15408 0) (replicate 1024 0)))
+    (begun input (nextOf (entryAt input 0)) (prepared (bodyAt input 0) (replicate 15408 0) (replicate 1024 0)))
     (refusedLine (faultOf (entryAt input 0)) 0))

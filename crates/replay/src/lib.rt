@@ -1,14 +1,13 @@
 // The run of a schedule: record after record moves the register, and the lines that it prints are laid in a lent buffer.
+ghost use mathlib.Core.Bool.{false};
 ghost use mathlib.Core.Path.{_≡_};
-ghost use lib.ListN.{length, getD};
-ghost use Rattle.names.specs.Names.{numberOf};
 ghost use Rattle.names.specs.declared.Answer.the-variants.{Going};
-ghost use Rattle.record.specs.Worker.{idle};
 ghost use Rattle.crew.specs.Crew.{left};
 ghost use Rattle.script.specs.Script.{entryAt, bodyAt};
 ghost use Rattle.text.specs.Text.{Laid};
-ghost use Rattle.replay.specs.Play.{bucketsOf, limitsOf, blank, prepared, numberIn, called, operationOf, callLine};
-ghost use Rattle.replay.specs.Replay.{kindOf, nextOf, faultOf, standOf, stopLine, isPlayed, lastLine, closed, followed, firstLine, begun, printed};
+ghost use Rattle.lines.specs.Lines.{refusedLine};
+ghost use Rattle.replay.specs.Play.{bucketsOf, limitsOf, prepared, numberIn, noStep, callOf, called, operationOf, callLine};
+ghost use Rattle.replay.specs.Replay.{kindOf, standOf, stopLine, isPlayed, lastLine, firstLine, begun, printed};
 use bank::Bank;
 use crew::Call;
 use crew::Called;
@@ -66,11 +65,13 @@ fn limits_of(body: &[u8]) -> Limits
     }
 }
 
-// No header yet.
-fn blank() -> Header
-    ensures { λ r. ⌜ r ≡ blank ⌝ }
+// 00: the register that its body asks for, over lent words.
+fn ready(body: &[u8], nodes: &mut [u32], buckets: &mut [u32]) -> Bank
+    ensures { λ r. ⌜ left (r .called) (r .workers) (now (nodes .exit)) (now (buckets .exit)) ≡ prepared (now (body .entry)) (now (nodes .entry)) (now (buckets .entry)) ⌝ }
 {
-    Header {
+    let limits = limits_of(body);
+    let idle = Worker::fresh(place::IDLE, 0, 0);
+    let blank = Header {
         m: 0,
         k: 0,
         w: 0,
@@ -78,16 +79,8 @@ fn blank() -> Header
         size: 0,
         count: 0,
         busy: 0,
-    }
-}
-
-// 00: the register that its body asks for, over lent words.
-fn ready(body: &[u8], nodes: &mut [u32], buckets: &mut [u32]) -> Bank
-    ensures { λ r. ⌜ left (r .called) (r .workers) (now (nodes .exit)) (now (buckets .exit)) ≡ prepared (now (body .entry)) (now (nodes .entry)) (now (buckets .entry)) ⌝ }
-{
-    let limits = limits_of(body);
-    let idle = Worker::fresh(place::IDLE, 0, 0);
-    bank::prepare([idle; 16], limits, blank(), nodes, buckets)
+    };
+    bank::prepare([idle; 16], limits, blank, nodes, buckets)
 }
 
 // The number in a body: the key of a start, the one step of 04, the n steps of 05.
@@ -117,85 +110,95 @@ fn stay(workers: [Worker; 16], header: Header) -> Bank
 }
 
 // The call of a record that isn't 00: a start, or up to so many steps.
-fn call(bank: Bank, kind: u32, w: u32, number: u32, nodes: &mut [u32], buckets: &mut [u32]) -> Bank
-    ensures { λ r. ⌜ left (r .called) (r .workers) (now (nodes .exit)) (now (buckets .exit)) ≡ called kind w number (left (bank .called) (bank .workers) (now (nodes .entry)) (now (buckets .entry))) ⌝ }
+fn call_of(kind: u32, number: u32) -> Call
+    requires { ⌜ noStep kind number ≡ false ⌝ }
+    ensures { λ r. ⌜ r ≡ callOf kind number ⌝ }
 {
-    let header = bank.called.header;
-    let workers = bank.workers;
     if kind <= 3 {
-        let start = Call::Start { kind, key: number };
-        return bank::serve(workers, w, header, start, nodes, buckets);
-    }
-    if number == 0 {
-        return stay(workers, header);
+        return Call::Start { kind, key: number };
     }
     let more = number - 1;
-    bank::serve(workers, w, header, Call::Steps { more }, nodes, buckets)
+    Call::Steps { more }
 }
 
-// Worker w's record; past the table it is idle.
-fn record_of(workers: [Worker; 16], w: u32) -> Worker
-    ensures { λ r. ⌜ r ≡ getD workers w idle ⌝ }
+// What the call leaves; no step is no call.
+fn call(
+    workers: [Worker; 16],
+    header: Header,
+    kind: u32,
+    w: u32,
+    number: u32,
+    nodes: &mut [u32],
+    buckets: &mut [u32],
+) -> Bank
+    ensures { λ r. ⌜ left (r .called) (r .workers) (now (nodes .exit)) (now (buckets .exit)) ≡ called kind w number header workers (now (nodes .entry)) (now (buckets .entry)) ⌝ }
+{
+    if (3 < kind) & (number == 0) {
+        return stay(workers, header);
+    }
+    let call = call_of(kind, number);
+    bank::serve(workers, w, header, call, nodes, buckets)
+}
+
+// The operation of worker w; past the table it has none.
+fn operation_of(workers: [Worker; 16], w: u32) -> Operation
+    ensures { λ r. ⌜ r ≡ operationOf w workers ⌝ }
 {
     let at = w as usize;
     if at < 16 {
-        return workers[at];
+        let x = workers[at];
+        return Operation {
+            worker: w,
+            kind: x.kind,
+            key: x.key,
+        };
     }
-    Worker::fresh(place::IDLE, 0, 0)
-}
-
-// The operation of worker w.
-fn operation_of(bank: Bank, w: u32) -> Operation
-    ensures { λ r. ⌜ r ≡ operationOf w (bank .workers) ⌝ }
-{
-    let workers = bank.workers;
-    let x = record_of(workers, w);
     Operation {
         worker: w,
-        kind: x.kind,
-        key: x.key,
+        kind: 0,
+        key: 0,
     }
 }
 
-// What a call handed back, without the records.
-fn called_of(bank: Bank) -> Called
-    ensures { λ r. ⌜ r ≡ bank .called ⌝ }
+// The answer that a call handed back.
+fn answer_of(bank: Bank) -> Answer
+    ensures { λ r. ⌜ r ≡ bank .called .answer ⌝ }
 {
     let called = bank.called;
-    called
+    let answer = called.answer;
+    answer
 }
 
-// A refusal, an ended operation, or nothing.
-fn put_called(
+// The line of a refusal.
+fn put_refused(out: &mut [u8], at: usize, number: u32, offset: usize) -> usize
+    ensures { λ r. ⌜ Laid (now (out .entry)) at (refusedLine number offset) (now (out .exit)) r ⌝ }
+{
+    lines::put_line(out, at, Line::Refused { number, offset })
+}
+
+// The line of a call: a refusal, an ended operation, or nothing.
+fn put_call(
     out: &mut [u8],
     at: usize,
     operation: Operation,
-    called: Called,
+    answer: Answer,
+    steps: u32,
     offset: usize,
 ) -> usize
-    ensures { λ r. ⌜ Laid (now (out .entry)) at (callLine operation called offset) (now (out .exit)) r ⌝ }
+    ensures { λ r. ⌜ Laid (now (out .entry)) at (callLine operation answer steps offset) (now (out .exit)) r ⌝ }
 {
-    let answer = called.answer;
     let number = answer.number();
     if (10 <= number) & (number <= 17) {
-        return lines::put_line(out, at, Line::Refused { number, offset });
+        return put_refused(out, at, number, offset);
     }
     let ended = Line::Ended {
         worker: operation.worker,
         kind: operation.kind,
         key: operation.key,
         answer,
-        steps: called.steps,
+        steps,
     };
     lines::put_line(out, at, ended)
-}
-
-// The line of a call.
-fn put_call(out: &mut [u8], at: usize, operation: Operation, bank: Bank, offset: usize) -> usize
-    ensures { λ r. ⌜ Laid (now (out .entry)) at (callLine operation (bank .called) offset) (now (out .exit)) r ⌝ }
-{
-    let called = called_of(bank);
-    put_called(out, at, operation, called, offset)
 }
 
 // What stands at an offset, to the run.
@@ -230,27 +233,6 @@ fn stand_at(schedule: &[u8], offset: usize) -> Stand
     }
 }
 
-// The kind of the whole record at an offset.
-fn kind_at(schedule: &[u8], offset: usize) -> u32
-    ensures { λ r. ⌜ r ≡ kindOf (entryAt (now (schedule .entry)) offset) ⌝ }
-{
-    stand_at(schedule, offset).kind
-}
-
-// Where the record after the whole one at an offset starts.
-fn next_at(schedule: &[u8], offset: usize) -> usize
-    ensures { λ r. ⌜ r ≡ nextOf (entryAt (now (schedule .entry)) offset) ⌝ }
-{
-    stand_at(schedule, offset).next
-}
-
-// The number that refuses what stands at an offset: 30, then 31, and then 32.
-fn fault_at(schedule: &[u8], offset: usize) -> u32
-    ensures { λ r. ⌜ r ≡ faultOf (entryAt (now (schedule .entry)) offset) ⌝ }
-{
-    stand_at(schedule, offset).fault
-}
-
 // What stops the run at an offset; the input's end prints nothing.
 fn put_stop(out: &mut [u8], at: usize, schedule: &[u8], offset: usize) -> usize
     ensures { λ r. ⌜ Laid (now (out .entry)) at (stopLine (now (schedule .entry)) offset) (now (out .exit)) r ⌝ }
@@ -258,15 +240,8 @@ fn put_stop(out: &mut [u8], at: usize, schedule: &[u8], offset: usize) -> usize
     if schedule.len() <= offset {
         return text::put_text(out, at, b"");
     }
-    let number = fault_at(schedule, offset);
-    lines::put_line(out, at, Line::Refused { number, offset })
-}
-
-// The register's header, of what the last call handed back.
-fn header_of(bank: Bank) -> Header
-    ensures { λ r. ⌜ r ≡ bank .called .header ⌝ }
-{
-    bank.called.header
+    let stand = stand_at(schedule, offset);
+    put_refused(out, at, stand.fault, offset)
 }
 
 // The registered keys, the count and the size.
@@ -282,67 +257,12 @@ fn put_last(out: &mut [u8], at: usize, header: Header, nodes: &[u32]) -> usize
     lines::put_line(out, at, end)
 }
 
-// What stopped the run, and the last line.
-fn close(
-    schedule: &[u8],
-    offset: usize,
-    bank: Bank,
-    nodes: &[u32],
-    out: &mut [u8],
-    at: usize,
-) -> usize
-    ensures { λ r. ⌜ Laid (now (out .entry)) at (closed (now (schedule .entry)) offset (bank .called .header) (now (nodes .entry))) (now (out .exit)) r ⌝ }
-{
-    let place = put_stop(out, at, schedule, offset);
-    let header = header_of(bank);
-    put_last(out, place, header, nodes)
-}
-
 // A whole record that isn't 00 stands at an offset: the run goes on.
 fn is_played(schedule: &[u8], offset: usize) -> bool
     ensures { λ r. ⌜ r ≡ isPlayed (kindOf (entryAt (now (schedule .entry)) offset)) ⌝ }
 {
-    let kind = kind_at(schedule, offset);
+    let kind = stand_at(schedule, offset).kind;
     (1 <= kind) & (kind <= 5)
-}
-
-// The records after the first, one a turn; there are no more of them than bytes.
-fn follow(
-    schedule: &[u8],
-    from: usize,
-    first: Bank,
-    nodes: &mut [u32],
-    buckets: &mut [u32],
-    out: &mut [u8],
-    at: usize,
-) -> usize
-    ensures { λ r. ⌜ Laid (now (out .entry)) at (followed (now (schedule .entry)) (length (now (schedule .entry))) from (left (first .called) (first .workers) (now (nodes .entry)) (now (buckets .entry)))) (now (out .exit)) r ⌝ }
-{
-    let mut bank = first;
-    let mut offset = from;
-    let mut place = at;
-    let mut turns = schedule.len();
-    while (0 < turns) & is_played(schedule, offset) {
-        let kind = kind_at(schedule, offset);
-        let body = script::body_of(schedule, offset);
-        let w = numbers::byte_at(body, 0);
-        let number = number_in(kind, body);
-        let operation = operation_of(bank, w);
-        bank = call(bank, kind, w, number, nodes, buckets);
-        place = put_call(out, place, operation, bank, offset);
-        offset = next_at(schedule, offset);
-        turns -= 1;
-    }
-    close(schedule, offset, bank, &nodes[..], out, place)
-}
-
-// The number of the answer that a call handed back.
-fn number_of(bank: Bank) -> u32
-    ensures { λ r. ⌜ r ≡ numberOf (bank .called .answer) ⌝ }
-{
-    let called = bank.called;
-    let answer = called.answer;
-    answer.number()
 }
 
 // The line of a register that was prepared.
@@ -358,25 +278,41 @@ fn put_first(out: &mut [u8], header: Header) -> usize
     lines::put_line(out, 0, register)
 }
 
-// The first record, and the records after it; a refused 00 stops the run.
-fn begin(schedule: &[u8], nodes: &mut [u32], buckets: &mut [u32], out: &mut [u8]) -> usize
-    ensures { λ r. ⌜ Laid (now (out .entry)) 0 (begun (now (schedule .entry)) (prepared (bodyAt (now (schedule .entry)) 0) (now (nodes .entry)) (now (buckets .entry)))) (now (out .exit)) r ⌝ }
+// The first record, and the records after it, one a turn: there are no more of them than bytes. A refused 00 stops the run.
+fn begin(
+    schedule: &[u8],
+    next: usize,
+    nodes: &mut [u32],
+    buckets: &mut [u32],
+    out: &mut [u8],
+) -> usize
+    ensures { λ r. ⌜ Laid (now (out .entry)) 0 (begun (now (schedule .entry)) next (prepared (bodyAt (now (schedule .entry)) 0) (now (nodes .entry)) (now (buckets .entry)))) (now (out .exit)) r ⌝ }
 {
-    let bank = ready(script::body_of(schedule, 0), nodes, buckets);
-    let number = number_of(bank);
+    let mut bank = ready(script::body_of(schedule, 0), nodes, buckets);
+    let answer = answer_of(bank);
+    let number = answer.number();
     if number != 0 {
-        return lines::put_line(out, 0, Line::Refused { number, offset: 0 });
+        return put_refused(out, 0, number, 0);
     }
-    let place = put_first(out, header_of(bank));
-    follow(
-        schedule,
-        next_at(schedule, 0),
-        bank,
-        nodes,
-        buckets,
-        out,
-        place,
-    )
+    let mut place = put_first(out, bank.called.header);
+    let mut offset = next;
+    let mut turns = schedule.len();
+    while (0 < turns) & is_played(schedule, offset) {
+        let stand = stand_at(schedule, offset);
+        let kind = stand.kind;
+        let body = script::body_of(schedule, offset);
+        let w = numbers::byte_at(body, 0);
+        let number = number_in(kind, body);
+        let workers = bank.workers;
+        let operation = operation_of(workers, w);
+        bank = call(workers, bank.called.header, kind, w, number, nodes, buckets);
+        let answer = answer_of(bank);
+        place = put_call(out, place, operation, answer, bank.called.steps, offset);
+        offset = stand.next;
+        turns -= 1;
+    }
+    place = put_stop(out, place, schedule, offset);
+    put_last(out, place, bank.called.header, &nodes[..])
 }
 
 // Runs a schedule and lays what it prints at the start of a lent buffer; where that ends.
@@ -384,17 +320,13 @@ pub fn run(schedule: &[u8], out: &mut [u8]) -> usize
     ensures { λ r. ⌜ Laid (now (out .entry)) 0 (printed (now (schedule .entry))) (now (out .exit)) r ⌝ }
 {
     if LONGEST < schedule.len() {
-        let refused = Line::Refused {
-            number: 33,
-            offset: LONGEST,
-        };
-        return lines::put_line(out, 0, refused);
+        return put_refused(out, 0, 33, LONGEST);
     }
-    if kind_at(schedule, 0) != 0 {
-        let number = fault_at(schedule, 0);
-        return lines::put_line(out, 0, Line::Refused { number, offset: 0 });
+    let stand = stand_at(schedule, 0);
+    if stand.kind != 0 {
+        return put_refused(out, 0, stand.fault, 0);
     }
     let mut nodes = [0u32; 15408];
     let mut buckets = [0u32; 1024];
-    begin(schedule, &mut nodes, &mut buckets, out)
+    begin(schedule, stand.next, &mut nodes, &mut buckets, out)
 }

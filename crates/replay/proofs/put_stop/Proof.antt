@@ -1,9 +1,8 @@
 -- The input's length says which way the definition goes.
 -- Assumes nothing.
 use borrow.Author.Needs.{needs}
-use borrow.Author.Tests.{le-leb, lt-leb}
-use Rattle.replay.specs.Replay.{stopLine}
-use Rattle.choice.proofs.Auto.{pick-true, pick-false}
+use Rattle.text.proofs.Laying.{laid-as}
+use Rattle.replay.proofs.Ways.{stop-none, stop-refused}
 use Rattle.replay.proofs.put_stop.Statement.{statement}
 use Rattle.replay.proofs.put_stop.Tie as tie
 
@@ -17,21 +16,24 @@ same-length : tie.Need-same-length
 same-length c = search needs
 
 returns : tie.Need-returns
-unfolding stopLine
-returns c = rw (pick-true _ _ _ (le-leb _ _ (c .before .before .before .before .before .if1 .taken))) (c .before .before .put-text .ensures)
+returns c =
+    let a = c .before .before .before .before .before .before .before .before .args in
+    laid-as (stop-none (a .schedule .now) (a .offset) (c .before .before .before .before .before .if1 .taken)) (c .before .before .put-text .ensures)
 
-fault-at-requires : tie.Need-fault-at-requires
-fault-at-requires c κs = tt
+stand-at-requires : tie.Need-stand-at-requires
+stand-at-requires c κs = tt
 
-put-line-requires : tie.Need-put-line-requires
-put-line-requires c κs = tt
+put-refused-requires : tie.Need-put-refused-requires
+put-refused-requires c κs = tt
 
 same-length-2 : tie.Need-same-length-2
 same-length-2 c = search needs
 
 returns-2 : tie.Need-returns-2
-unfolding stopLine
-returns-2 c = rw (pick-false _ _ _ (lt-leb _ _ (c .before .before .before .before .before .if1 .left)), ← (c .before .before .before .before .fault-at .ensures)) (c .before .before .put-line .ensures)
+returns-2 c =
+    let a = c .before .before .before .before .before .before .before .before .args in
+    let s = c .before .before .before .before .stand-at in
+    laid-as (stop-refused (a .schedule .now) (a .offset) (s .result) (c .before .before .before .before .before .if1 .left) (s .ensures)) (c .before .before .put-refused .ensures)
 
 pub put-stop-spec : {M : Type 1} → statement M
 put-stop-spec =
@@ -41,7 +43,7 @@ put-stop-spec =
     put-text-requires
     same-length
     returns
-    fault-at-requires
-    put-line-requires
+    stand-at-requires
+    put-refused-requires
     same-length-2
     returns-2)

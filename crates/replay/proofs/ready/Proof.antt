@@ -1,7 +1,6 @@
 -- What is handed to the crew is what the definition names.
 -- Assumes nothing.
 use borrow.Author.Needs.{needs}
-use mathlib.Core.Path.{_≡_, refl}
 use Rattle.replay.specs.Play.{prepared}
 use Rattle.replay.proofs.ready.Statement.{statement}
 use Rattle.replay.proofs.ready.Tie as tie
@@ -11,9 +10,6 @@ limits-of-requires c κs = tt
 
 fresh-requires : tie.Need-fresh-requires
 fresh-requires c κs = tt
-
-blank-requires : tie.Need-blank-requires
-blank-requires c κs = tt
 
 prepare-requires : tie.Need-prepare-requires
 prepare-requires c κs = tt
@@ -26,16 +22,9 @@ same-length-2 c = search needs
 
 returns : tie.Need-returns
 unfolding prepared
-returns c = rw (← (c .before .before .before .before .before .before .before .before .before .limits-of .ensures), ← (c .before .before .before .before .before .before .before .before .fresh .ensures), ← (c .before .before .before .before .before .before .before .blank .ensures)) (c .before .before .before .before .prepare .ensures)
+returns c = rw (← (c .before .before .before .before .before .before .before .before .limits-of .ensures), ← (c .before .before .before .before .before .before .before .fresh .ensures)) (c .before .before .before .before .prepare .ensures)
 
 pub ready-spec : {M : Type 1} → statement M
 ready-spec =
     tie.close
-    (tie.spec
-    limits-of-requires
-    fresh-requires
-    blank-requires
-    prepare-requires
-    same-length
-    same-length-2
-    returns)
+    (tie.spec limits-of-requires fresh-requires prepare-requires same-length same-length-2 returns)
