@@ -7,8 +7,8 @@ use mathlib.Core.Path.{_≡_, refl, sym, ap, _∙_}
 use mathlib.Core.Bool.{Bool, true, false}
 use mathlib.Core.List.{List, [], _∷_, _++_}
 use lib.Dec.{ltb, eqb}
-use lib.ListN.{length, getD, set, getD-replicate, List·getD-eq-default}
-use lib.Seq.{getD-append-add, set-out}
+use lib.ListN.{length, getD, set, take, drop, getD-replicate, List·getD-eq-default}
+use lib.Seq.{drop-append-add, take-at, set-out}
 use borrow.Author.Tests.{lt-ltb, le-ltb, ltb-true, ltb-false}
 use Rattle.choice.specs.Choice.{pick}
 use Rattle.choice.proofs.Auto.{pick-true, pick-false}
@@ -19,7 +19,7 @@ use Rattle.scans.proofs.Laws.{cleared-none}
 use Rattle.words.specs.Words.{store}
 use Rattle.crew.specs.Crew.{filled}
 use Rattle.crew.proofs.Laws.{filled-length}
-use Rattle.welmuzra.specs.Words.{RECORD, zeros, placeOf, markWord, recordWords, lacks, read, laid, wordsAt, stored}
+use Rattle.welmuzra.specs.Words.{RECORD, zeros, placeOf, markWord, recordWords, lacks, laid, wordsAt, stored}
 use Rattle.welmuzra.specs.Promises.{HeaderBack, RecordBack, WordsBack, packed}
 
 pub header-back : HeaderBack
@@ -62,11 +62,6 @@ set-append-add : (xs ys : List ℕ) (n v : ℕ) → set (xs ++ ys) (length xs + 
 set-append-add [] ys n v = rw (zero-add n)
 set-append-add (x ∷ xs) ys n v = rw (suc-add (length xs) n) (ap (λ (l : List ℕ). x ∷ l) (set-append-add xs ys n v))
 
-read-past : (n : ℕ) (xs rs : List ℕ) (at : ℕ) → read n (xs ++ rs) (length xs + at) ≡ read n rs at
-unfolding read
-read-past zero xs rs at = refl
-read-past (suc n) xs rs at = rw (read-past n xs rs at, add-assoc (length xs) at n, getD-append-add xs rs (at + n) 0)
-
 laid-past : (n : ℕ) (ws : List ℕ) (at : ℕ) (xs rs : List ℕ) → laid n ws (length xs + at) (xs ++ rs) ≡ xs ++ laid n ws at rs
 unfolding laid
 laid-past zero ws at xs rs = refl
@@ -75,21 +70,18 @@ laid-past (suc n) ws at xs rs = rw (laid-past n ws at xs rs, add-assoc (length x
 one-more : (w : ℕ) → suc w * RECORD ≡ RECORD + w * RECORD
 one-more w = omega arith
 
--- the first record's words
-read-first : (x : Worker) (rs : List ℕ) → read RECORD (recordWords x ++ rs) 0 ≡ recordWords x
-unfolding read
-read-first x rs = refl
-
+-- storing the first record's words
 laid-first : (x y : Worker) (rs : List ℕ) → laid RECORD (recordWords x) 0 (recordWords y ++ rs) ≡ recordWords x ++ rs
 unfolding laid
 laid-first x y rs = refl
 
 -- the words of record w of the packed records
-read-packed : (ws : List Worker) (w : ℕ) → w < length ws → read RECORD (packed ws) (w * RECORD) ≡ recordWords (getD ws w idle)
-read-packed [] w h = absurd (omega arith)
-read-packed (x ∷ xs) zero h = read-first x (packed xs)
-read-packed (x ∷ xs) (suc w) h =
-    ap (read RECORD (packed (x ∷ xs))) (one-more w) ∙ read-past RECORD (recordWords x) (packed xs) (w * RECORD) ∙ read-packed xs w (omega arith)
+taken-packed : (ws : List Worker) (w : ℕ) → w < length ws → take RECORD (drop (w * RECORD) (packed ws)) ≡ recordWords (getD ws w idle)
+taken-packed [] w h = absurd (omega arith)
+taken-packed (x ∷ xs) zero h = take-at (recordWords x) (packed xs) RECORD refl
+taken-packed (x ∷ xs) (suc w) h =
+    ap (λ (at : ℕ). take RECORD (drop at (packed (x ∷ xs)))) (one-more w) ∙ ap (take RECORD) (drop-append-add (recordWords x) (packed xs) (w * RECORD)) ∙
+    taken-packed xs w (omega arith)
 
 laid-packed : (ws : List Worker) (w : ℕ) (x : Worker) → w < length ws → laid RECORD (recordWords x) (w * RECORD) (packed ws) ≡ packed (set ws w x)
 laid-packed [] w x h = absurd (omega arith)
@@ -113,8 +105,8 @@ pub words-packed : (ws : List Worker) (w : ℕ) → wordsAt (packed ws) w ≡ re
 unfolding wordsAt
 words-packed ws w = by (ltb w (length ws)) refl
   where
-    by : (t : Bool) → ltb w (length ws) ≡ t → pick (lacks (packed ws) w) zeros (read RECORD (packed ws) (w * RECORD)) ≡ recordWords (getD ws w idle)
-    by true e = let h = ltb-true w (length ws) e in pick-false _ _ _ (lacks-packed ws w h) ∙ read-packed ws w h
+    by : (t : Bool) → ltb w (length ws) ≡ t → pick (lacks (packed ws) w) zeros (take RECORD (drop (w * RECORD) (packed ws))) ≡ recordWords (getD ws w idle)
+    by true e = let h = ltb-true w (length ws) e in pick-false _ _ _ (lacks-packed ws w h) ∙ taken-packed ws w h
     by false e =
         let h = ltb-false w (length ws) e in
         pick-true _ _ _ (lacks-past ws w h) ∙ zeros-idle ∙ ap recordWords (sym (List·getD-eq-default ws idle h))

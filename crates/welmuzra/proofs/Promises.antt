@@ -5,7 +5,8 @@ use native.Mathlib.Omega.{arith}
 use mathlib.Core.Path.{_≡_, refl, sym, ap, _∙_}
 use mathlib.Core.Bool.{true}
 use mathlib.Core.List.{List}
-use lib.ListN.{length, getD}
+use lib.ListN.{length, getD, take, drop}
+use lib.Seq.{getD-take, getD-drop}
 use borrow.Author.Tests.{le-leb, lt-leb, lt-ltb, le-ltb}
 use Rattle.choice.proofs.Auto.{pick-true, pick-false}
 use Rattle.choice.proofs.Cases.{by-bool}
@@ -24,7 +25,7 @@ use Rattle.register.specs.Calls.{startOf, stepVerdict, steppedBy, stepOf}
 use Rattle.promises.specs.Unchanged as un
 use Rattle.promises.proofs.Unchanged.{step-unchanged, prepare-unchanged}
 use Rattle.crew.specs.Crew.{turn}
-use Rattle.welmuzra.specs.Words.{RECORD, zeros, headerOf, placeOf, recordOf, lacks, read, wordsAt}
+use Rattle.welmuzra.specs.Words.{RECORD, zeros, headerOf, placeOf, recordOf, lacks, wordsAt}
 use Rattle.welmuzra.specs.Calls.{Own, own, Lent, lent, says, refuses, kept, turnOf, lacksRecords, stepWords, startWords, readied, prepareWords}
 use Rattle.welmuzra.specs.Promises.{Refused, StepUnchanged, StartUnchanged, PrepareUnchanged, NoRecord}
 
@@ -92,14 +93,13 @@ unknown-place : (h : Header) (w : ℕ) (x : Worker) → D6 < x .place → worker
 unfolding workerDamaged unknownName
 unknown-place h w x u = rw (lt-ltb D6 (x .place) u)
 
-mark-read : (rs : List ℕ) (at : ℕ) → getD (read RECORD rs at) 11 0 ≡ getD rs (at + 11) 0
-unfolding read
-mark-read rs at = refl
+mark-read : (rs : List ℕ) (at : ℕ) → getD (take RECORD (drop at rs)) 11 0 ≡ getD rs (at + 11) 0
+mark-read rs at = getD-take RECORD (drop at rs) 11 0 (omega arith) ∙ getD-drop at rs 11 0
 
 no-place : (rs : List ℕ) (w : ℕ) → w * RECORD + RECORD ≤ length rs → 1 < getD rs (w * RECORD + 11) 0 → recordOf (wordsAt rs w) .place ≡ D6 + 1
 unfolding wordsAt placeOf
 no-place rs w all bad =
-    rw (pick-false (lacks rs w) zeros (read RECORD rs (w * RECORD)) (le-ltb _ _ all), mark-read rs (w * RECORD))
+    rw (pick-false (lacks rs w) zeros (take RECORD (drop (w * RECORD) rs)) (le-ltb _ _ all), mark-read rs (w * RECORD))
     (pick-true _ _ _ (lt-ltb _ _ bad))
 
 pub no-record : NoRecord

@@ -3,7 +3,7 @@ use Prim.Native.Nat.{ℕ, zero, suc, _+_, _*_}
 use mathlib.Core.Bool.{Bool}
 use mathlib.Core.List.{List, [], _∷_}
 use lib.Dec.{ltb, eqb}
-use lib.ListN.{length, getD, set, replicate}
+use lib.ListN.{length, getD, set, take, drop, replicate}
 use Rattle.choice.specs.Choice.{pick}
 use Rattle.names.specs.Names.{D6}
 use Rattle.header.specs.declared.Header.{Header}
@@ -64,14 +64,9 @@ lacks rs w = ltb (length rs) (w * RECORD + RECORD)
 abbrev pub zeros : List ℕ
 zeros = replicate RECORD 0
 
--- the words once the first n are those of the table from `at` on
-unfoldable pub read : ℕ → List ℕ → ℕ → List ℕ
-read zero rs at = zeros
-read (suc n) rs at = set (read n rs at) n (getD rs (at + n) 0)
-
 -- the words of record w; past the table they are 0, and there w is W or above
 unfoldable pub wordsAt : List ℕ → ℕ → List ℕ
-wordsAt rs w = pick (lacks rs w) zeros (read RECORD rs (w * RECORD))
+wordsAt rs w = pick (lacks rs w) zeros (take RECORD (drop (w * RECORD) rs))
 
 -- the table once the first n of the words stand in it from `at` on
 unfoldable pub laid : ℕ → List ℕ → ℕ → List ℕ → List ℕ

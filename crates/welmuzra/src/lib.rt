@@ -1,10 +1,10 @@
 // The register as a library that C links, over plain words: any word is a word, where a caller's bool or struct could be none.
 ghost use mathlib.Core.Path.{_≡_};
 ghost use mathlib.Core.Bool.{false};
-ghost use Prim.Native.Nat.{_≤_, _*_};
+ghost use Prim.Native.Nat.{_≤_};
 ghost use lib.ListN.{length};
 ghost use Rattle.crew.specs.Crew.{tooFew, tooFewFor};
-ghost use Rattle.welmuzra.specs.Words.{RECORD, headerOf, headerWords, placeOf, markWord, recordWith, recordOf, recordWords, wordsAt, stored};
+ghost use Rattle.welmuzra.specs.Words.{headerOf, headerWords, placeOf, recordOf, recordWords, wordsAt, stored};
 ghost use Rattle.welmuzra.specs.Calls.{own, lent, turnOf, lacksRecords, says, refuses, kept, stepWords, startWords, limits, readied, prepareWords};
 use header::Header;
 use names::Answer;
@@ -54,12 +54,33 @@ fn place_of(mark: u32, place: u32) -> u32
     place
 }
 
-// The record of a place and of fourteen words more.
-fn record_with(place: u32, words: [u32; 15]) -> Worker
-    ensures { λ r. ⌜ r ≡ recordWith place words ⌝ }
+// Record w; past the table its words are 0.
+fn record_at(records: &[u32], w: u32) -> Worker
+    ensures { λ r. ⌜ r ≡ recordOf (wordsAt (now (records .entry)) w) ⌝ }
 {
+    let at = (w as usize) * 15;
+    if records.len() < at + 15 {
+        return Worker {
+            place: 0,
+            errand: 0,
+            kind: 0,
+            key: 0,
+            wanted: 0,
+            making: 0,
+            size: 0,
+            start: 0,
+            prev: 0,
+            cur: 0,
+            next: 0,
+            marked: false,
+            held: 0,
+            dummy: 0,
+            steps: 0,
+        };
+    }
+    let words = &records[at..at + 15];
     Worker {
-        place,
+        place: place_of(words[11], words[0]),
         errand: words[1],
         kind: words[2],
         key: words[3],
@@ -77,29 +98,15 @@ fn record_with(place: u32, words: [u32; 15]) -> Worker
     }
 }
 
-// The record that fifteen words are.
-fn record_of(words: [u32; 15]) -> Worker
-    ensures { λ r. ⌜ r ≡ recordOf words ⌝ }
+// Record w goes into its place; past the table there is nothing to store.
+fn store_record(records: &mut [u32], w: u32, x: Worker)
+    ensures { λ _. ⌜ now (records .exit) ≡ stored (now (records .entry)) w (recordWords x) ⌝ }
 {
-    record_with(place_of(words[11], words[0]), words)
-}
-
-// The word of a mark.
-fn mark_word(marked: bool) -> u32
-    ensures { λ r. ⌜ r ≡ markWord marked ⌝ }
-{
-    if marked {
-        return 1;
+    let at = (w as usize) * 15;
+    if records.len() < at + 15 {
+        return;
     }
-    0
-}
-
-// The fifteen words of a record.
-fn record_words(x: Worker) -> [u32; 15]
-    ensures { λ r. ⌜ r ≡ recordWords x ⌝ }
-{
-    let mark = mark_word(x.marked);
-    [
+    let words = [
         x.place,
         x.errand,
         x.kind,
@@ -111,38 +118,11 @@ fn record_words(x: Worker) -> [u32; 15]
         x.prev,
         x.cur,
         x.next,
-        mark,
+        x.marked as u32,
         x.held,
         x.dummy,
         x.steps,
-    ]
-}
-
-// The words of record w.
-fn words_at(records: &[u32], w: u32) -> [u32; 15]
-    ensures { λ r. ⌜ r ≡ wordsAt (now (records .entry)) w ⌝ }
-{
-    let mut words = [0u32; 15];
-    let at = (w as usize) * 15;
-    if records.len() < at + 15 {
-        return words;
-    }
-    let mut i: usize = 0;
-    while i < 15 {
-        words[i] = records[at + i];
-        i += 1;
-    }
-    words
-}
-
-// The words of record w are stored in its place.
-fn store_record(records: &mut [u32], w: u32, words: [u32; 15])
-    ensures { λ _. ⌜ now (records .exit) ≡ stored (now (records .entry)) w words ⌝ }
-{
-    let at = (w as usize) * 15;
-    if records.len() < at + 15 {
-        return;
-    }
+    ];
     let mut i: usize = 0;
     while i < 15 {
         records[at + i] = words[i];
@@ -155,7 +135,7 @@ fn turn_of(header: [u32; 7], records: &[u32], w: u32) -> Turn
     ensures { λ r. ⌜ r ≡ turnOf header (now (records .entry)) w ⌝ }
 {
     let h = header_of(header);
-    let worker = record_of(words_at(records, w));
+    let worker = record_at(records, w);
     Turn {
         number: w,
         header: h,
@@ -171,18 +151,22 @@ fn lacks_records(len: usize, w: u32) -> bool
 }
 
 // 12, then 11: there are fewer records than W.
-fn too_few(header: Header) -> Answer
-    ensures { λ r. ⌜ r ≡ tooFew header ⌝ }
+fn too_few(header: Header) -> Reply
+    ensures { λ r. ⌜ r ≡ says (tooFew header) 0 ⌝ }
 {
+    let mut answer = Answer::Short;
     if header.damaged() {
-        return Answer::Damaged;
+        answer = Answer::Damaged;
     }
-    Answer::Short
+    Reply {
+        answer: answer.number(),
+        steps: 0,
+    }
 }
 
 // 10, then 11: there are fewer records than the W that is asked for.
-fn too_few_for(limits: Limits) -> Answer
-    ensures { λ r. ⌜ r ≡ tooFewFor limits ⌝ }
+fn too_few_for(limits: Limits) -> Reply
+    ensures { λ r. ⌜ r ≡ says (tooFewFor limits) 0 ⌝ }
 {
     let fresh = Header {
         m: limits.m,
@@ -193,28 +177,14 @@ fn too_few_for(limits: Limits) -> Answer
         count: 0,
         busy: 0,
     };
+    let mut answer = Answer::Short;
     if fresh.limit_broken() {
-        return Answer::Limit;
+        answer = Answer::Limit;
     }
-    Answer::Short
-}
-
-// An answer by its number.
-fn says(answer: Answer, steps: u32) -> Reply
-    ensures { λ r. ⌜ r ≡ says answer steps ⌝ }
-{
     Reply {
         answer: answer.number(),
-        steps,
+        steps: 0,
     }
-}
-
-// The answers that change no word.
-fn refuses(answer: Answer) -> bool
-    ensures { λ r. ⌜ r ≡ refuses answer ⌝ }
-{
-    let number = answer.number();
-    (10 <= number) & (number <= 17)
 }
 
 // What a start or a step hands back goes into the words, unless it is refused.
@@ -222,13 +192,20 @@ fn keep(header: &mut [u32; 7], records: &mut [u32], w: u32, out: Outcome) -> Rep
     ensures { λ r. ⌜ own r (now (header .exit)) (now (records .exit)) ≡ kept (now (header .entry)) (now (records .entry)) w out ⌝ }
 {
     let answer = out.answer;
-    if refuses(answer) {
-        return says(answer, out.steps);
+    let number = answer.number();
+    if (10 <= number) & (number <= 17) {
+        return Reply {
+            answer: number,
+            steps: out.steps,
+        };
     }
     let words = header_words(out.header);
     *header = words;
-    store_record(records, w, record_words(out.worker));
-    says(answer, out.steps)
+    store_record(records, w, out.worker);
+    Reply {
+        answer: number,
+        steps: out.steps,
+    }
 }
 
 // One step of worker w.
@@ -244,7 +221,7 @@ pub extern "C" fn welmuzra_step(
 {
     let turn = turn_of(*header, &records[..], w);
     if lacks_records(records.len(), turn.header.w) {
-        return says(too_few(turn.header), 0);
+        return too_few(turn.header);
     }
     let out = turn.step(nodes, buckets);
     keep(header, records, w, out)
@@ -265,18 +242,10 @@ pub extern "C" fn welmuzra_start(
 {
     let turn = turn_of(*header, &records[..], w);
     if lacks_records(records.len(), turn.header.w) {
-        return says(too_few(turn.header), 0);
+        return too_few(turn.header);
     }
     let out = turn.start(kind, key, nodes, buckets);
     keep(header, records, w, out)
-}
-
-// How many words W records are.
-fn words_of(w: u32) -> u32
-    requires { ⌜ w ≤ 16 ⌝ }
-    ensures { λ r. ⌜ r ≡ w * RECORD ⌝ }
-{
-    w * 15
 }
 
 // What preparing hands back goes into the words, unless it is refused.
@@ -285,13 +254,20 @@ fn ready(header: &mut [u32; 7], records: &mut [u32], w: u32, out: Prepared) -> R
     ensures { λ r. ⌜ own r (now (header .exit)) (now (records .exit)) ≡ readied w (now (header .entry)) (now (records .entry)) out ⌝ }
 {
     let answer = out.answer;
-    if refuses(answer) {
-        return says(answer, 0);
+    let number = answer.number();
+    if (10 <= number) & (number <= 17) {
+        return Reply {
+            answer: number,
+            steps: 0,
+        };
     }
     let words = header_words(out.header);
     *header = words;
-    scans::clear(records, words_of(w));
-    says(answer, 0)
+    scans::clear(records, w * 15);
+    Reply {
+        answer: number,
+        steps: 0,
+    }
 }
 
 // A register of M buckets, K key nodes, W workers and load L.
@@ -310,7 +286,7 @@ pub extern "C" fn welmuzra_prepare(
 {
     let limits = Limits { m, k, w, l };
     if lacks_records(records.len(), w) {
-        return says(too_few_for(limits), 0);
+        return too_few_for(limits);
     }
     let out = limits.prepare(header_of(*header), nodes, buckets);
     ready(header, records, w, out)

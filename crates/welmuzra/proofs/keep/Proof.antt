@@ -1,32 +1,23 @@
 -- The test of a refusal says which way the definition goes, and the words are those of what was handed in.
 -- Assumes nothing.
+use borrow.Author.Needs.{needs}
 use Rattle.choice.proofs.Auto.{then-is, else-is}
 use Rattle.welmuzra.specs.Calls.{kept}
-use borrow.Author.Needs.{needs}
 use Rattle.welmuzra.proofs.keep.Statement.{statement}
 use Rattle.welmuzra.proofs.keep.Tie as tie
 
-refuses-requires : tie.Need-refuses-requires
-refuses-requires c κs = tt
-
-says-requires : tie.Need-says-requires
-says-requires c κs = tt
+number-requires : tie.Need-number-requires
+number-requires c κs = tt
 
 returns : tie.Need-returns
 unfolding kept
-returns c = then-is _ _ _ _ (rw (← c .before .before .refuses .ensures) (c .before .if1 .taken)) (rw (c .says .ensures))
+returns c = then-is _ _ _ _ (rw (c .before .number .ensures) at (c .if1 .taken)) (rw (c .before .number .ensures))
 
 header-words-requires : tie.Need-header-words-requires
 header-words-requires c κs = tt
 
-record-words-requires : tie.Need-record-words-requires
-record-words-requires c κs = tt
-
 store-record-requires : tie.Need-store-record-requires
 store-record-requires c κs = tt
-
-says-requires-2 : tie.Need-says-requires-2
-says-requires-2 c κs = tt
 
 same-length : tie.Need-same-length
 same-length c = search needs
@@ -34,19 +25,8 @@ same-length c = search needs
 returns-2 : tie.Need-returns-2
 unfolding kept
 returns-2 c =
-    else-is _ _ _ _ (rw (← c .before .before .before .before .before .before .before .before .refuses .ensures) (c .before .before .before .before .before .before .before .if1 .left))
-    (rw (c .says2 .ensures, c .before .before .before .before .before .before .header-words .ensures, c .before .before .before .store-record .ensures, c .before .before .before .before .record-words .ensures))
+    else-is _ _ _ _ (rw (c .before .before .before .before .before .before .number .ensures) at (c .before .before .before .before .before .if1 .left))
+    (rw (c .before .before .before .before .before .before .number .ensures, c .before .before .before .before .header-words .ensures, c .before .before .store-record .ensures))
 
 pub keep-spec : {M : Type 1} → statement M
-keep-spec =
-    tie.close
-    (tie.spec
-    refuses-requires
-    says-requires
-    returns
-    header-words-requires
-    record-words-requires
-    store-record-requires
-    says-requires-2
-    same-length
-    returns-2)
+keep-spec = tie.close (tie.spec number-requires returns header-words-requires store-record-requires same-length returns-2)

@@ -1,4 +1,4 @@
--- After i turns the first i words stand in the table.
+-- After i turns the first i words of the record stand in the table.
 -- Assumes nothing.
 use Prim.Native.Nat.{ℕ, _*_, _≤_, _-_}
 use native.Mathlib.Omega.{arith}
@@ -6,18 +6,21 @@ use mathlib.Core.Path.{_≡_, refl, ap, _∙_}
 use borrow.Author.Needs.{needs}
 use borrow.Author.Tests.{lt-ltb, le-ltb}
 use denote.Ref.{now}
+use mathlib.Core.List.{List}
 use lib.ListN.{length}
+use mir.Val.{boolByte}
 use Rattle.choice.proofs.Auto.{then-is, else-is}
 use Rattle.welmuzra.specs.Words.{RECORD, laid, stored}
-use Rattle.welmuzra.proofs.Laws.{laid-suc, laid-length}
+use Rattle.welmuzra.specs.Promises.{fifteen}
+use Rattle.welmuzra.proofs.Laws.{mark-byte, laid-suc, laid-length}
 use Rattle.welmuzra.proofs.store_record.Statement.{statement}
 use Rattle.welmuzra.proofs.store_record.Tie as tie
 
 abbrev Inv-loop : tie.InvT-loop
-Inv-loop records₀ w words at i₀ records i = (i ≤ RECORD) × (records ≡ laid i words at records₀)
+Inv-loop records₀ w at words i₀ records i = (i ≤ RECORD) × (records ≡ laid i words at records₀)
 
 abbrev μ-loop : tie.MeasureT-loop
-μ-loop records₀ w words at i₀ records i = RECORD - i
+μ-loop records₀ w at words i₀ records i = RECORD - i
 
 mul-at : tie.Need-mul-at Inv-loop μ-loop
 mul-at c = search needs
@@ -28,6 +31,9 @@ add-if1 c = search needs
 returns : tie.Need-returns Inv-loop μ-loop
 unfolding stored
 returns c = then-is _ _ _ _ (lt-ltb _ _ (c .if1 .taken)) refl
+
+cast-t10 : tie.Need-cast-t10 Inv-loop μ-loop
+cast-t10 c = search needs
 
 loop-holds : tie.Need-loop-holds Inv-loop μ-loop
 unfolding laid
@@ -63,9 +69,12 @@ same-length c = ap length (c .before .loop .inv .1) ∙ laid-length _ _ _ _
 returns-2 : tie.Need-returns-2 Inv-loop μ-loop
 unfolding stored
 returns-2 c =
-    let a = c .before .before .before .args in
+    let a = c .before .before .before .before .args in
+    let x = a .x in
+    let laidBy : ℕ → ℕ → List ℕ = λ n m. laid n (fifteen (x .place) (x .errand) (x .kind) (x .key) (x .wanted) (x .making) (x .size) (x .start) (x .prev) (x .cur) (x .next) m (x .held) (x .dummy) (x .steps)) (a .w * RECORD) (now (a .records)) in
     let e : c .before .loop .i ≡ RECORD = omega arith in
-    else-is _ _ _ _ (le-ltb _ _ (c .before .before .if1 .left)) (c .before .loop .inv .1 ∙ ap (λ (n : ℕ). laid n (a .t3) (a .w * RECORD) (now (a .records))) e)
+    else-is _ _ _ _ (le-ltb _ _ (c .before .before .before .if1 .left))
+    (c .before .loop .inv .1 ∙ ap (λ (n : ℕ). laidBy n (boolByte (x .marked))) e ∙ ap (laidBy RECORD) (mark-byte (x .marked)))
 
 pub store-record-spec : {M : Type 1} → statement M
 store-record-spec =
@@ -76,6 +85,7 @@ store-record-spec =
     mul-at
     add-if1
     returns
+    cast-t10
     loop-holds
     mul-records
     array-read-records

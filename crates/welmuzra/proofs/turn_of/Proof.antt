@@ -6,14 +6,11 @@ use Rattle.welmuzra.proofs.turn_of.Tie as tie
 header-of-requires : tie.Need-header-of-requires
 header-of-requires c κs = tt
 
-words-at-requires : tie.Need-words-at-requires
-words-at-requires c κs = tt
-
-record-of-requires : tie.Need-record-of-requires
-record-of-requires c κs = tt
+record-at-requires : tie.Need-record-at-requires
+record-at-requires c κs = tt
 
 returns : tie.Need-returns
-returns c = rw (c .record-of .ensures, c .before .words-at .ensures, c .before .before .header-of .ensures)
+returns c = rw (c .record-at .ensures, c .before .header-of .ensures)
 
 pub turn-of-spec : {M : Type 1} → statement M
-turn-of-spec = tie.close (tie.spec header-of-requires words-at-requires record-of-requires returns)
+turn-of-spec = tie.close (tie.spec header-of-requires record-at-requires returns)

@@ -16,13 +16,10 @@ lacks-records-requires c κs = tt
 too-few-for-requires : tie.Need-too-few-for-requires
 too-few-for-requires c κs = tt
 
-says-requires : tie.Need-says-requires
-says-requires c κs = tt
-
 returns : tie.Need-returns
 unfolding prepareWords
 returns c =
-    then-is _ _ _ _ (sym (c .before .before .before .lacks-records .ensures) ∙ c .before .before .if1 .taken) (rw (c .says .ensures, c .before .too-few-for .ensures))
+    then-is _ _ _ _ (sym (c .before .before .lacks-records .ensures) ∙ c .before .if1 .taken) (rw (c .too-few-for .ensures))
 
 header-of-requires : tie.Need-header-of-requires
 header-of-requires c κs = tt
@@ -57,7 +54,6 @@ welmuzra-prepare-spec =
     (tie.spec
     lacks-records-requires
     too-few-for-requires
-    says-requires
     returns
     header-of-requires
     prepare-requires
