@@ -1,13 +1,13 @@
 -- The place that laying returns counts bytes of the buffer; where the text fits, they are the text.
 -- Assumes nothing.
 use Prim.Native.Nat.{ℕ, _≤_}
-use mathlib.Core.Path.{_≡_, refl, sym, ap, _∙_}
+use mathlib.Core.Path.{_≡_, sym, ap, _∙_}
 use mathlib.Core.List.{List}
 use native.Mathlib.Omega.{arith}
 use lib.ListN.{length, take}
 use lib.Seq.{length-take-le}
 use Rattle.io.specs.Counts.{Counts}
-use Rattle.text.specs.Text.{laid, Laid}
+use Rattle.text.specs.Text.{Laid}
 use Rattle.text.proofs.Laying.{laid-length, laid-take}
 
 module _ {out : List ℕ} {at : ℕ} {text exit : List ℕ} {place : ℕ} where

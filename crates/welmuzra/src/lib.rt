@@ -60,23 +60,7 @@ fn record_at(records: &[u32], w: u32) -> Worker
 {
     let at = (w as usize) * 15;
     if records.len() < at + 15 {
-        return Worker {
-            place: 0,
-            errand: 0,
-            kind: 0,
-            key: 0,
-            wanted: 0,
-            making: 0,
-            size: 0,
-            start: 0,
-            prev: 0,
-            cur: 0,
-            next: 0,
-            marked: false,
-            held: 0,
-            dummy: 0,
-            steps: 0,
-        };
+        return Worker::fresh(place::IDLE, 0, 0);
     }
     let words = &records[at..at + 15];
     Worker {

@@ -1,9 +1,8 @@
 -- The shift is a power of two, which fits where the exponent is at most 10.
 -- Assumes nothing.
-use mathlib.Core.Path.{_≡_, refl}
+use mathlib.Core.Path.{refl}
 use Prim.Native.Nat.{_^_}
 use native.Mathlib.Nat.{one-mul, mod-eq-of-lt}
-use native.Mathlib.Omega.{arith}
 use lib.Pow.{pow-lt}
 use Rattle.replay.proofs.Played.{exponent-fits}
 use Rattle.replay.specs.Play.{bucketsOf}

@@ -1,7 +1,5 @@
--- Each field is what its reader says.
+-- Each field is the number that stands there.
 -- Assumes nothing.
-use borrow.Author.Needs.{needs}
-use mathlib.Core.Path.{_≡_, refl}
 use Rattle.replay.proofs.limits_of.Statement.{statement}
 use Rattle.replay.proofs.limits_of.Tie as tie
 

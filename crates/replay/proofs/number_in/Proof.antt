@@ -1,7 +1,5 @@
 -- Each test that was passed says which way the definition goes.
 -- Assumes nothing.
-use borrow.Author.Needs.{needs}
-use borrow.Author.Tests.{eq-eqb, ne-eqb, le-leb, lt-leb}
 use Rattle.replay.specs.Play.{numberIn}
 use Rattle.choice.proofs.Auto.{through}
 use Rattle.replay.proofs.number_in.Statement.{statement}

@@ -1,4 +1,4 @@
--- What is handed to the crew is what the definition names.
+-- What is handed to the bank is what the definition names.
 -- Assumes nothing.
 use borrow.Author.Needs.{needs}
 use Rattle.replay.specs.Play.{prepared}

@@ -19,8 +19,11 @@ mul-at c = search needs
 add-if1 : tie.Need-add-if1
 add-if1 c = search needs
 
+fresh-requires : tie.Need-fresh-requires
+fresh-requires c κs = tt
+
 returns : tie.Need-returns
-returns c = record-past _ _ (lt-ltb _ _ (c .if1 .taken))
+returns c = c .fresh .ensures ∙ record-past _ _ (lt-ltb _ _ (c .before .if1 .taken))
 
 add-words : tie.Need-add-words
 add-words c = search needs
@@ -96,4 +99,4 @@ returns-2 c =
     ap (λ (place : ℕ). recordWith place words) (c .before .before .before .before .before .before .before .before .before .before .before .before .before .before .place-of .ensures) ∙ record-within n (now (a .records)) (a .w) (omega arith) (le-ltb _ _ (c .before .before .before .before .before .before .before .before .before .before .before .before .before .before .before .before .before .before .if1 .left))
 
 pub record-at-spec : {M : Type 1} → statement M
-record-at-spec = tie.close (tie.spec mul-at add-if1 returns add-words mul-words sub-words part-words-start part-words-end shared-slice-read-place-of shared-slice-read-place-of-2 place-of-requires shared-slice-read-t17 shared-slice-read-t19 shared-slice-read-t21 shared-slice-read-t23 shared-slice-read-t25 shared-slice-read-t27 shared-slice-read-t29 shared-slice-read-t31 shared-slice-read-t33 shared-slice-read-t35 shared-slice-read-t37 shared-slice-read-t39 shared-slice-read-t41 shared-slice-read-t43 returns-2)
+record-at-spec = tie.close (tie.spec mul-at add-if1 fresh-requires returns add-words mul-words sub-words part-words-start part-words-end shared-slice-read-place-of shared-slice-read-place-of-2 place-of-requires shared-slice-read-t17 shared-slice-read-t19 shared-slice-read-t21 shared-slice-read-t23 shared-slice-read-t25 shared-slice-read-t27 shared-slice-read-t29 shared-slice-read-t31 shared-slice-read-t33 shared-slice-read-t35 shared-slice-read-t37 shared-slice-read-t39 shared-slice-read-t41 shared-slice-read-t43 returns-2)
