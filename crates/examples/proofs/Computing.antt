@@ -1,4 +1,5 @@
 -- All that a call computes with: where these unfold, a closed run is computed to its end.
+-- Assumes nothing.
 use Rattle.choice.specs.Choice.{pick}
 use Rattle.split.specs.Split.{rev, reverse, regular, dummy}
 use Rattle.tree.specs.Tree.{par, parentOf, climb, ancestors, among, before, justBefore, onPath, nextDown, powerBelow, powerOfTwo, powerUpTo}

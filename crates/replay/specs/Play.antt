@@ -15,7 +15,7 @@ use Rattle.record.specs.Worker.{idle, within}
 use Rattle.prepare.specs.declared.Limits.{Limits}
 use Rattle.crew.specs.declared.Call.{Call}
 use Rattle.crew.specs.declared.Call.the-variants.{Start, Steps}
-use Rattle.crew.specs.Crew.{Left, left, refused, going, prepareAt, serveAt}
+use Rattle.crew.specs.Crew.{Left, left, going, prepareAt, serveAt}
 use Rattle.numbers.specs.Numbers.{littleEndian}
 use Rattle.lines.specs.Lines.{endedLine, refusedLine}
 use Rattle.replay.specs.declared.Operation.{Operation}
@@ -55,7 +55,7 @@ callOf kind number = pick (leb kind 3) (Start kind number) (Steps (number - 1))
 -- what it leaves; no step is no call: going on, and all as it was
 unfoldable pub called : ℕ → ℕ → ℕ → Header → List Worker → List ℕ → List ℕ → Left
 called kind w number h ws ns bs =
-    pick (noStep kind number) (left (refused Going h) ws ns bs) (serveAt h ws w (callOf kind number) ns bs)
+    pick (noStep kind number) (left (record { answer = Going; steps = 0; header = h }) ws ns bs) (serveAt h ws w (callOf kind number) ns bs)
 
 -- ---- the line of a call
 -- whose operation it is: the worker, and the kind and key that its record had as the call began

@@ -1,4 +1,5 @@
 -- The run is that of the program: what a call that met its contract handed back, and left in the lent words, is the run's next state.
+-- Assumes nothing.
 use Prim.Native.Nat.{ℕ}
 use mathlib.Core.List.{List}
 use mathlib.Core.Path.{_≡_, refl, sym, ap, _∙_}
