@@ -104,15 +104,15 @@ struct welmuzra_reply welmuzra_prepare(
     uint32_t m, uint32_t k, uint32_t w, uint32_t l);
 
 /*
- * A worker starts an operation on a key. Nodes and buckets are not read; their lengths are looked at.
+ * A worker starts an operation on a key. Nodes and buckets are lent as for a step, and are not written; their lengths are looked at.
  * Promise: the first of 12 (header), 11, 13, 17, 14, 12 (record), 15 whose case holds, and then no word is changed. Else 0: the
  * worker's busy bit is set and its record is that of the operation before its first step; no other word is changed.
  */
 struct welmuzra_reply welmuzra_start(
     uint32_t header[WELMUZRA_HEADER_WORDS],
     uint32_t *records, size_t records_len,
-    const uint32_t *nodes, size_t nodes_len,
-    const uint32_t *buckets, size_t buckets_len,
+    uint32_t *nodes, size_t nodes_len,
+    uint32_t *buckets, size_t buckets_len,
     uint32_t worker, uint32_t kind, uint32_t key);
 
 /*

@@ -20,7 +20,10 @@ use Rattle.header.specs.Header.{headerDamaged, limitBroken}
 use Rattle.record.specs.declared.Worker.{Worker}
 use Rattle.record.specs.Worker.{idle}
 use Rattle.prepare.specs.declared.Limits.{Limits}
+use Rattle.register.specs.declared.Ask.{Ask}
+use Rattle.register.specs.declared.Ask.the-variants.{Start, Step}
 use Rattle.register.specs.declared.Turn.{Turn}
+use Rattle.register.proofs.Laws.{past-asked}
 use Rattle.writes.specs.declared.Outcome.{Outcome}
 use Rattle.names.specs.declared.Verdict.{Verdict}
 use Rattle.names.specs.declared.Verdict.the-variants.{Refused, Pass}
@@ -34,28 +37,21 @@ use Rattle.writes.specs.Carry.{After, after}
 use Rattle.register.specs.Step.{refusedWith, seenBy, carried}
 use Rattle.prepare.specs.Prepare.{Kept, freshHeader, prepared}
 use Rattle.header.specs.Header.{isShort}
-use Rattle.register.specs.Calls.{startedBy, startVerdict, startOf, steppedBy, stepVerdict, stepOf}
+use Rattle.register.specs.Calls.{startedBy, startVerdict, startOf, steppedBy, stepVerdict, stepOf, askedOf}
 use Rattle.crew.specs.declared.Call.{Call}
-use Rattle.crew.specs.declared.Call.the-variants.{Start, Steps}
+use Rattle.crew.specs.declared.Call.the-variants.{Start as Starts, Steps}
 use Rattle.crew.specs.declared.Ready.{Ready}
 use Rattle.crew.specs.Crew.{Left, left, refused, called, turnAt, stored, tooFew, stepAt, startAt, filled, ready, tooFewFor, prepareAt, turn, going, moreAt, stepsAt, serveAt}
-use Rattle.crew.specs.One.{pastOf, mostOf, callOf, serveOne, wants, Wanted, wanted, prepareOne}
+use Rattle.crew.specs.One.{noneOf, pastOf, mostOf, callOf, serveOne, wants, Wanted, wanted, prepareOne}
 
--- the first three rows of a start and of a step, where the third holds
-three : (d s n : Bool) (later : Verdict) → n ≡ true → pick d (Refused Damaged) (pick s (Refused Short) (pick n (Refused NoWorker) later)) ≡ Refused (pick d Damaged (pick s Short NoWorker))
-unfolding pick
-three true s n later e = refl
-three false true n later e = refl
-three false false n later e = rw e
+-- the answer to a worker that there is not, where there are fewer records than W and where there are not
+pub none-few : (h : Header) (nodes buckets : ℕ) → noneOf h true nodes buckets ≡ tooFew h
+unfolding noneOf tooFew pick
+none-few h nodes buckets = refl
 
--- the answer past the table, where there are fewer records than W and where there are not
-past-few : (h : Header) (len nodes buckets : ℕ) → ltb len (h .w) ≡ true → pastOf h len nodes buckets ≡ tooFew h
-unfolding pastOf tooFew pick
-past-few h len nodes buckets e = rw e
-
-past-all : (h : Header) (len nodes buckets : ℕ) → ltb len (h .w) ≡ false → pastOf h len nodes buckets ≡ pick (headerDamaged h) Damaged (pick (isShort h nodes buckets) Short NoWorker)
-unfolding pastOf
-past-all h len nodes buckets e = rw e
+pub none-enough : (h : Header) (nodes buckets : ℕ) → noneOf h false nodes buckets ≡ pick (headerDamaged h) Damaged (pick (isShort h nodes buckets) Short NoWorker)
+unfolding noneOf
+none-enough h nodes buckets = refl
 
 -- a choice is stored as the choice of what is stored
 stored-pick : (ws : List Worker) (w : ℕ) (t : Bool) (a b : After) (l : Left) → stored ws w a ≡ l → stored ws w (pick t a b) ≡ pick t l (stored ws w b)
@@ -75,21 +71,19 @@ module _ (h : Header) (ws : List Worker) (w : ℕ) (ns bs : List ℕ) where
   as-it-was a = ap (λ (l : List Worker). left (refused a h) l ns bs) (set-getD ws w idle)
 
   few-is : ltb (length ws) (h .w) ≡ true → left (refused far h) ws ns bs ≡ left (refused (tooFew h) h) ws ns bs
-  few-is few = ap (λ (a : Answer). left (refused a h) ws ns bs) (past-few h (length ws) (length ns) (length bs) few)
+  few-is few = ap (λ (b : Bool). left (refused (noneOf h b (length ns) (length bs)) h) ws ns bs) few ∙ ap (λ (a : Answer). left (refused a h) ws ns bs) (none-few h (length ns) (length bs))
 
-  beyond : length ws ≤ w → ltb (length ws) (h .w) ≡ false → leb (h .w) w ≡ true
-  beyond l e = le-leb (h .w) w (omega (arith, l, ltb-false (length ws) (h .w) e))
-
-  step-far : length ws ≤ w → ltb (length ws) (h .w) ≡ false → stepOf t ns bs ≡ after (refusedWith far t) ns bs
-  unfolding stepOf stepVerdict
-  step-far l e = rw (past-all h (length ws) (length ns) (length bs) e) (ap (steppedBy t ns bs) (three _ _ _ _ (beyond l e)))
+  far-is : (a : Ask) → length ws ≤ w → ltb (length ws) (h .w) ≡ false → askedOf t a ns bs ≡ after (refusedWith far t) ns bs
+  far-is a l e =
+      past-asked t a ns bs (le-leb (h .w) w (omega (arith, l, ltb-false (length ws) (h .w) e)))
+      ∙ ap (λ (n : Answer). after (refusedWith n t) ns bs) (sym (ap (λ (b : Bool). noneOf h b (length ns) (length bs)) e ∙ none-enough h (length ns) (length bs)))
 
   -- a worker past the table
   pub step-past : length ws ≤ w → left (refused far h) ws ns bs ≡ stepAt h ws w ns bs
   unfolding stepAt
   step-past l =
       by-bool (λ (z : Left). left (refused far h) ws ns bs ≡ z) (ltb (length ws) (h .w)) few-is
-      (λ e. sym (as-it-was far) ∙ ap (stored ws w) (sym (step-far l e)))
+      (λ e. sym (as-it-was far) ∙ ap (stored ws w) (sym (far-is Step l e)))
 
   -- where there are enough records, a step over the table is a step with the record in hand, stored back
   step-enough : ltb (length ws) (h .w) ≡ false → stepAt h ws w ns bs ≡ stored ws w (stepOf t ns bs)
@@ -97,15 +91,11 @@ module _ (h : Header) (ws : List Worker) (w : ℕ) (ns bs : List ℕ) where
   step-enough e = pick-false _ _ _ e
 
   module _ (kind key : ℕ) where
-    start-far : length ws ≤ w → ltb (length ws) (h .w) ≡ false → startOf t kind key (length ns) (length bs) ≡ refusedWith far t
-    unfolding startOf startVerdict
-    start-far l e = rw (past-all h (length ws) (length ns) (length bs) e) (ap (startedBy t kind key) (three _ _ _ _ (beyond l e)))
-
     pub start-past : length ws ≤ w → left (refused far h) ws ns bs ≡ startAt h ws w kind key ns bs
     unfolding startAt
     start-past l =
         by-bool (λ (z : Left). left (refused far h) ws ns bs ≡ z) (ltb (length ws) (h .w)) few-is
-        (λ e. sym (as-it-was far) ∙ ap (λ (o : Outcome). stored ws w (after o ns bs)) (sym (start-far l e)))
+        (λ e. sym (as-it-was far) ∙ ap (stored ws w) (sym (far-is (Start kind key) l e)))
 
 -- a write leaves the limits and the busy set as they are
 pub sized : (e : Effect) (h : Header) → (headerAfter e h .m ≡ h .m) × (headerAfter e h .k ≡ h .k) × (headerAfter e h .w ≡ h .w) × (headerAfter e h .busy ≡ h .busy)
@@ -183,7 +173,7 @@ module _ (ws : List Worker) (w : ℕ) (within : w < length ws) where
 
 -- a worker past the table is refused at once
 far-stops : (h : Header) (ws : List Worker) (w : ℕ) (ns bs : List ℕ) → length ws ≤ w → going (stepAt h ws w ns bs .called .answer) ≡ false
-unfolding pastOf
+unfolding noneOf
 far-stops h ws w ns bs l =
     ne-eqb _ 0 (λ e. refuses (pastOf h (length ws) (length ns) (length bs)) (both Refuses _ (omega arith) (both Refuses _ (omega arith) (omega arith))) (ap (λ (z : Left). numberOf (z .called .answer)) (step-past h ws w ns bs l) ∙ e))
   where
@@ -221,12 +211,12 @@ module _ (h : Header) (ws : List Worker) (w : ℕ) (ns bs : List ℕ) (more : �
 -- ---- a call is a start or steps
 module _ (h : Header) (ws : List Worker) (w : ℕ) (ns bs : List ℕ) where
   pub serve-past : (c : Call) → length ws ≤ w → left (refused (pastOf h (length ws) (length ns) (length bs)) h) ws ns bs ≡ serveAt h ws w c ns bs
-  serve-past (Start kind key) = start-past h ws w ns bs kind key
+  serve-past (Starts kind key) = start-past h ws w ns bs kind key
   serve-past (Steps more) = steps-past h ws w ns bs more
 
   call-in : (c : Call) → w < length ws → pick (ltb (length ws) (h .w)) (left (refused (tooFew h) h) ws ns bs) (stored ws w (callOf (turnAt h ws w) c ns bs)) ≡ serveAt h ws w c ns bs
   unfolding startAt
-  call-in (Start kind key) l = refl
+  call-in (Starts kind key) l = refl
   call-in (Steps more) l = by-bool (λ (z : Left). z ≡ stepsAt h ws w more ns bs) (ltb (length ws) (h .w)) (steps-few h ws w ns bs more) (steps-enough h ws w ns bs more l)
 
   pub serve-in : (c : Call) → w < length ws → (o : Outcome) (ms cs : List ℕ) → after o ms cs ≡ serveOne (turnAt h ws w) (length ws) c ns bs → left (called o) (set ws w (o .worker)) ms cs ≡ serveAt h ws w c ns bs

@@ -1,6 +1,6 @@
 -- The parts by value: what is done with one record, a number of records and the lent tables of words.
 use Prim.Native.Nat.{ℕ, zero, suc, _+_}
-use mathlib.Core.Bool.{_||_}
+use mathlib.Core.Bool.{Bool, _||_}
 use mathlib.Core.List.{List}
 use lib.Dec.{ltb, eqb}
 use lib.ListN.{length}
@@ -25,9 +25,13 @@ use Rattle.crew.specs.declared.Served.{Served}
 use Rattle.crew.specs.declared.Ready.{Ready}
 use Rattle.crew.specs.Crew.{called, turn, going, tooFew, tooFewFor, ready}
 
--- a worker past the table: 12, 11, 13
-unfoldable pub pastOf : Header → ℕ → ℕ → ℕ → Answer
-pastOf h len nodes buckets = pick (headerDamaged h) Damaged (pick (ltb len (h .w) || isShort h nodes buckets) Short NoWorker)
+-- a worker that there is not: 12, then 11 where there are too few records or words, then 13
+unfoldable pub noneOf : Header → Bool → ℕ → ℕ → Answer
+noneOf h few nodes buckets = pick (headerDamaged h) Damaged (pick (few || isShort h nodes buckets) Short NoWorker)
+
+-- a worker past the table
+abbrev pub pastOf : Header → ℕ → ℕ → ℕ → Answer
+pastOf h len nodes buckets = noneOf h (ltb len (h .w)) nodes buckets
 
 -- what the register hands back, the record apart, and put together again
 abbrev pub apart : Outcome → Served

@@ -1,4 +1,4 @@
-// The workers' records side by side in one lent table: a record is taken out by value, the register's own start or step is called on it, and it is stored back.
+// The workers' records side by side in one lent table: a record is taken out by value, the register's own call is made on it, and it is stored back.
 ghost use mathlib.Core.Path.{_≡_};
 ghost use Prim.Native.Nat.{_≤_};
 ghost use lib.ListN.{length};
@@ -12,6 +12,7 @@ use names::place;
 use prepare::Limits;
 use prepare::Prepared;
 use record::Worker;
+use register::Ask;
 use register::Turn;
 use writes::Outcome;
 
@@ -126,7 +127,7 @@ fn steps_one(
             header,
             worker,
         };
-        out = turn.step(nodes, buckets);
+        out = turn.call(Ask::Step, nodes, buckets);
         left -= 1;
     }
     out
@@ -155,7 +156,7 @@ fn serve_one(
                 header,
                 worker,
             };
-            apart(turn.start(kind, key, &nodes[..], &buckets[..]))
+            apart(turn.call(Ask::Start { kind, key }, nodes, buckets))
         }
         Call::Steps { more } => {
             let most = (more as u64) + 1;

@@ -62,6 +62,11 @@ zero-idle x e (errand, (kind, (key, (wanted, (making, (size, (start, (prev, (cur
       steps = steps i;
     }
 
+-- so it is where no field is above 0
+pub is-idle : (x : Worker) → x .place ≡ IDLE → idleNotZero x ≡ false → x ≡ idle
+unfolding idleNotZero
+is-idle x e n = zero-idle x e (others-zero x .sound (rw e at n))
+
 -- and the other fields of the idle one are 0
 idle-zero : (x : Worker) → x ≡ idle → OthersZero x
 idle-zero x e = rw e (refl, (refl, (refl, (refl, (refl, (refl, (refl, (refl, (refl, (refl, (refl, (refl, (refl, refl)))))))))))))

@@ -52,7 +52,11 @@ makingAstray x = (eqb (x .place) B2 || eqb (x .place) B4 || eqb (x .place) B8) &
 unfoldable pub sizeMisfit : Header → Worker → Bool
 sizeMisfit h x = within I9 I10 (x .place) && (not (powerUpTo (h .m) (x .size)) || (eqb (x .place) I10 && leb (h .m) (x .size)))
 
+-- one of the four rows that speak of the place
+abbrev pub misfits : Header → Worker → Bool
+misfits h x = kindMisfit x || errandMisfit x || makingAstray x || sizeMisfit h x
+
 unfoldable pub workerDamaged : Header → ℕ → Worker → Bool
 workerDamaged h w x =
     unknownName x || keyAbove (x .key) || bucketBeyond h x || nodeBeyond (nodesOf h) x || bitDisagrees h w x
-    || idleNotZero x || kindMisfit x || errandMisfit x || makingAstray x || sizeMisfit h x
+    || idleNotZero x || misfits h x

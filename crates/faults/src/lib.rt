@@ -1,7 +1,7 @@
 // The faults of a worker's record, row by row of the scope paper's "12 is given exactly when".
 ghost use mathlib.Core.Path.{_≡_};
 ghost use lib.Dec.{ltb};
-ghost use Rattle.faults.specs.Faults.{unknownName, bucketBeyond, nodeBeyond, bitDisagrees, idleNotZero, kindMisfit, errandMisfit, makingAstray, sizeMisfit, workerDamaged};
+ghost use Rattle.faults.specs.Faults.{unknownName, bucketBeyond, nodeBeyond, bitDisagrees, idleNotZero, kindMisfit, errandMisfit, makingAstray, sizeMisfit, misfits, workerDamaged};
 use header::Header;
 use names::errand;
 use names::kind;
@@ -107,18 +107,31 @@ fn size_misfit(x: Worker, h: Header) -> bool
     false
 }
 
-// 12, the record's own part.
+// A record that does not fit its place: only the rows that speak of the place are looked at.
+fn misfit(x: Worker, h: Header) -> bool
+    ensures { λ r. ⌜ r ≡ misfits h x ⌝ }
+{
+    if x.place < place::F1 {
+        return kind_misfit(x) | making_astray(x);
+    }
+    if x.place <= place::L2 {
+        return errand_misfit(x);
+    }
+    kind_misfit(x) | making_astray(x) | size_misfit(x, h)
+}
+
+// 12, the record's own part: a row that holds ends it, and an idle record has few.
 pub fn damaged(x: Worker, h: Header, w: u32) -> bool
     ensures { λ r. ⌜ r ≡ workerDamaged h w x ⌝ }
 {
-    unknown_name(x)
-        | (names::KEY_LIMIT < x.key)
-        | bucket_beyond(x, h)
-        | node_beyond(x, h.nodes())
-        | bit_disagrees(x, h, w)
-        | idle_not_zero(x)
-        | kind_misfit(x)
-        | errand_misfit(x)
-        | making_astray(x)
-        | size_misfit(x, h)
+    if bit_disagrees(x, h, w) | bucket_beyond(x, h) {
+        return true;
+    }
+    if x.place == place::IDLE {
+        return idle_not_zero(x);
+    }
+    if unknown_name(x) | (names::KEY_LIMIT < x.key) | node_beyond(x, h.nodes()) {
+        return true;
+    }
+    misfit(x, h)
 }

@@ -17,6 +17,8 @@ use Rattle.faults.specs.Faults.{workerDamaged}
 use Rattle.moves.specs.Moves.{decided}
 use Rattle.writes.specs.declared.Outcome.{Outcome}
 use Rattle.writes.specs.Carry.{After, after}
+use Rattle.register.specs.declared.Ask.{Ask}
+use Rattle.register.specs.declared.Ask.the-variants.{Start, Step}
 use Rattle.register.specs.declared.Turn.{Turn}
 use Rattle.register.specs.Step.{refusedWith, seenBy, carried}
 
@@ -29,6 +31,34 @@ callVerdict t nodes buckets =
     ∷ refuses NoWorker (leb (t .header .w) (t .number))
     ∷ [])
     Pass
+
+-- ---- what a start is asked for: 17, 14; a step is asked for nothing that could be refused
+unfoldable pub askVerdict : Ask → Verdict
+askVerdict (Start kind key) =
+    firstOf
+    (refuses NoKind (ltb kind INSERT || ltb DELETE kind)
+    ∷ refuses KeyAbove (ltb KEY-LIMIT key)
+    ∷ [])
+    Pass
+askVerdict Step = Pass
+
+-- the first of two verdicts that refuses
+abbrev pub followed : Verdict → Verdict → Verdict
+followed (Refused a) v = Refused a
+followed Pass v = v
+
+-- all that is checked before the record is asked whether it is idle
+unfoldable pub openVerdict : Turn → Ask → ℕ → ℕ → Verdict
+openVerdict t a nodes buckets =
+    followed (callVerdict t nodes buckets)
+    (followed (askVerdict a) (firstOf (refuses Damaged (workerDamaged (t .header) (t .number) (t .worker)) ∷ []) Pass))
+
+-- and then: 15 for a start, 16 for a step
+unfoldable pub busyVerdict : Turn → Verdict
+busyVerdict t = firstOf (refuses IsBusy (not (eqb (t .worker .place) IDLE)) ∷ []) Pass
+
+unfoldable pub idleVerdict : Turn → Verdict
+idleVerdict t = firstOf (refuses IsIdle (eqb (t .worker .place) IDLE) ∷ []) Pass
 
 -- ---- starting: 12, 11, 13, 17, 14, 12, 15
 unfoldable pub startVerdict : Turn → ℕ → ℕ → ℕ → ℕ → Verdict
@@ -72,3 +102,8 @@ steppedBy t ns bs Pass = carried t (decided (seenBy t ns bs)) ns bs
 
 unfoldable pub stepOf : Turn → List ℕ → List ℕ → After
 stepOf t ns bs = steppedBy t ns bs (stepVerdict t (length ns) (length bs))
+
+-- ---- either call, by what the turn is asked for
+abbrev pub askedOf : Turn → Ask → List ℕ → List ℕ → After
+askedOf t (Start kind key) ns bs = after (startOf t kind key (length ns) (length bs)) ns bs
+askedOf t Step ns bs = stepOf t ns bs

@@ -1,12 +1,11 @@
 // The register by value: starting an operation, and one step of one worker.
 ghost use mathlib.Core.Path.{_≡_};
 ghost use lib.ListN.{length};
-ghost use Rattle.names.specs.declared.Verdict.the-variants.{Pass};
 ghost use Rattle.record.specs.Worker.{begun};
 ghost use Rattle.moves.specs.Moves.{decided};
 ghost use Rattle.writes.specs.Carry.{after};
-ghost use Rattle.register.specs.Calls.{callVerdict, startVerdict, startedBy, startOf, stepVerdict, steppedBy, stepOf};
-ghost use Rattle.register.specs.Step.{refusedWith, Small, wordFor, seenBy};
+ghost use Rattle.register.specs.Calls.{callVerdict, askVerdict, openVerdict, busyVerdict, idleVerdict, startedBy, steppedBy, askedOf};
+ghost use Rattle.register.specs.Step.{refusedWith, Small, wordFor, splitFor, seenBy};
 use acts::Move;
 use header::Header;
 use moves::Seen;
@@ -16,6 +15,14 @@ use names::kind;
 use names::place;
 use record::Worker;
 use writes::Outcome;
+
+// What a turn is asked for.
+pub enum Ask {
+    // An operation of this kind on this key starts.
+    Start { kind: u32, key: u32 },
+    // One step of the operation that is under way.
+    Step,
+}
 
 // One worker's turn: its number, the register's header and its record, handed in.
 pub struct Turn {
@@ -32,6 +39,24 @@ fn begun(kind: u32, key: u32) -> Worker
         return Worker::fresh(place::I1, kind, key);
     }
     Worker::fresh(place::SZ, kind, key)
+}
+
+// 17, 14: a start of an unknown kind, or on a key above the limit.
+fn asked(ask: Ask) -> Verdict
+    ensures { λ r. ⌜ r ≡ askVerdict ask ⌝ }
+{
+    match ask {
+        Ask::Start { kind, key } => {
+            if (kind < kind::INSERT) | (kind::DELETE < kind) {
+                return Verdict::Refused(Answer::NoKind);
+            }
+            if names::KEY_LIMIT < key {
+                return Verdict::Refused(Answer::KeyAbove);
+            }
+            Verdict::Pass
+        }
+        Ask::Step => Verdict::Pass,
+    }
 }
 
 impl Turn {
@@ -65,33 +90,31 @@ impl Turn {
         Verdict::Pass
     }
 
-    // Then 17, 14, 12, 15.
-    fn start_verdict(self, kind: u32, key: u32, nodes: usize, buckets: usize) -> Verdict
-        ensures { λ r. ⌜ r ≡ startVerdict self kind key nodes buckets ⌝ }
+    // Then a start's 17 and 14, and 12: all that is checked before the record is asked whether it is idle.
+    fn verdict(self, ask: Ask, nodes: usize, buckets: usize) -> Verdict
+        ensures { λ r. ⌜ r ≡ openVerdict self ask nodes buckets ⌝ }
     {
         let first = self.call_verdict(nodes, buckets);
         if let Verdict::Refused(answer) = first {
             return Verdict::Refused(answer);
         }
-        if (kind < kind::INSERT) | (kind::DELETE < kind) {
-            return Verdict::Refused(Answer::NoKind);
-        }
-        if names::KEY_LIMIT < key {
-            return Verdict::Refused(Answer::KeyAbove);
+        let then = asked(ask);
+        if let Verdict::Refused(answer) = then {
+            return Verdict::Refused(answer);
         }
         if faults::damaged(self.worker, self.header, self.number) {
             return Verdict::Refused(Answer::Damaged);
         }
-        if self.worker.place != place::IDLE {
-            return Verdict::Refused(Answer::IsBusy);
-        }
         Verdict::Pass
     }
 
-    // The worker is busy, with a record that begins.
+    // 15, or the worker is busy, with a record that begins. Starting is private: it looks at the tables' lengths alone.
     fn begin(self, kind: u32, key: u32) -> Outcome
-        ensures { λ r. ⌜ r ≡ startedBy self kind key Pass ⌝ }
+        ensures { λ r. ⌜ r ≡ startedBy self kind key (busyVerdict self) ⌝ }
     {
+        if self.worker.place != place::IDLE {
+            return self.refused(Answer::IsBusy);
+        }
         let mut header = self.header;
         header.busy = sets::with_bit(header.busy, self.number);
         let worker = begun(kind, key);
@@ -101,34 +124,6 @@ impl Turn {
             header,
             worker,
         }
-    }
-
-    // Starting is private: it sets the busy bit and the record, and looks at the tables' lengths alone.
-    pub fn start(self, kind: u32, key: u32, nodes: &[u32], buckets: &[u32]) -> Outcome
-        ensures { λ r. ⌜ r ≡ startOf self kind key (length (now (nodes .entry))) (length (now (buckets .entry))) ⌝ }
-    {
-        let verdict = self.start_verdict(kind, key, nodes.len(), buckets.len());
-        match verdict {
-            Verdict::Refused(answer) => self.refused(answer),
-            Verdict::Pass => self.begin(kind, key),
-        }
-    }
-
-    // Then 12, 16.
-    fn step_verdict(self, nodes: usize, buckets: usize) -> Verdict
-        ensures { λ r. ⌜ r ≡ stepVerdict self nodes buckets ⌝ }
-    {
-        let first = self.call_verdict(nodes, buckets);
-        if let Verdict::Refused(answer) = first {
-            return Verdict::Refused(answer);
-        }
-        if faults::damaged(self.worker, self.header, self.number) {
-            return Verdict::Refused(Answer::Damaged);
-        }
-        if self.worker.place == place::IDLE {
-            return Verdict::Refused(Answer::IsIdle);
-        }
-        Verdict::Pass
     }
 
     // The one shared word that the step reads at its place, or the node that it found free.
@@ -154,28 +149,30 @@ impl Turn {
         }
     }
 
-    // What the step sees; at F3 the split key of cur is read in the same step.
+    // At F3 the split key of cur is read in the same step.
+    fn split_for(self, nodes: &[u32]) -> u32
+        ensures { λ r. ⌜ r ≡ splitFor self (now (nodes .entry)) ⌝ }
+    {
+        if self.worker.place == place::F3 {
+            return words::word(nodes, self.worker.cur, words::SPLIT_KEY);
+        }
+        0
+    }
+
+    // What the step sees.
     fn look(self, nodes: &[u32], buckets: &[u32]) -> Seen
         requires { ⌜ Small (self .header) ⌝ }
         ensures { λ r. ⌜ r ≡ seenBy self (now (nodes .entry)) (now (buckets .entry)) ⌝ }
     {
+        let word = self.word_for(nodes, buckets);
+        let split = self.split_for(nodes);
         let header = self.header;
         let worker = self.worker;
-        let word = self.word_for(nodes, buckets);
-        if worker.place == place::F3 {
-            let split = words::word(nodes, worker.cur, words::SPLIT_KEY);
-            return Seen {
-                header,
-                worker,
-                word,
-                split,
-            };
-        }
         Seen {
             header,
             worker,
             word,
-            split: 0,
+            split,
         }
     }
 
@@ -187,25 +184,31 @@ impl Turn {
         self.look(nodes, buckets).decide()
     }
 
-    // A step that isn't refused: the decision is made, and carried out.
+    // 16, or one shared access with the private work that follows: the decision is made, and carried out.
     fn act(self, nodes: &mut [u32], buckets: &mut [u32]) -> Outcome
         requires { ⌜ Small (self .header) ⌝ }
-        ensures { λ r. ⌜ after r (now (nodes .exit)) (now (buckets .exit)) ≡ steppedBy self (now (nodes .entry)) (now (buckets .entry)) Pass ⌝ }
+        ensures { λ r. ⌜ after r (now (nodes .exit)) (now (buckets .exit)) ≡ steppedBy self (now (nodes .entry)) (now (buckets .entry)) (idleVerdict self) ⌝ }
     {
+        if self.worker.place == place::IDLE {
+            return self.refused(Answer::IsIdle);
+        }
         let decision = self.decision(&nodes[..], &buckets[..]);
         let h = self.header;
         let x = self.worker;
         writes::carry(h.m + h.w + h.k, self.number, h, x, decision, nodes, buckets)
     }
 
-    // One step of one worker: refused, or one shared access with the private work that follows.
-    pub fn step(self, nodes: &mut [u32], buckets: &mut [u32]) -> Outcome
-        ensures { λ r. ⌜ after r (now (nodes .exit)) (now (buckets .exit)) ≡ stepOf self (now (nodes .entry)) (now (buckets .entry)) ⌝ }
+    // One call of a worker: refused, or what it is asked for.
+    pub fn call(self, ask: Ask, nodes: &mut [u32], buckets: &mut [u32]) -> Outcome
+        ensures { λ r. ⌜ after r (now (nodes .exit)) (now (buckets .exit)) ≡ askedOf self ask (now (nodes .entry)) (now (buckets .entry)) ⌝ }
     {
-        let verdict = self.step_verdict(nodes.len(), buckets.len());
-        match verdict {
-            Verdict::Refused(answer) => self.refused(answer),
-            Verdict::Pass => self.act(nodes, buckets),
+        let verdict = self.verdict(ask, nodes.len(), buckets.len());
+        if let Verdict::Refused(answer) = verdict {
+            return self.refused(answer);
+        }
+        match ask {
+            Ask::Start { kind, key } => self.begin(kind, key),
+            Ask::Step => self.act(nodes, buckets),
         }
     }
 }

@@ -21,14 +21,16 @@ use Rattle.writes.specs.declared.Outcome.{Outcome}
 use Rattle.names.specs.declared.Verdict.{Verdict}
 use Rattle.prepare.specs.Prepare.{Kept, freshHeader, prepareVerdict, preparedBy, prepared}
 use Rattle.header.specs.Header.{isShort}
-use Rattle.register.specs.Calls.{startOf, stepOf}
+use Rattle.register.specs.declared.Ask.{Ask}
+use Rattle.register.specs.declared.Ask.the-variants.{Start, Step}
+use Rattle.register.specs.Calls.{askedOf}
 use Rattle.promises.specs.Unchanged as un
-use Rattle.promises.proofs.Unchanged.{step-unchanged, start-unchanged}
 use Rattle.crew.specs.Crew as crew
 use Rattle.crew.specs.Crew.{left, turnAt, stepAt, startAt, prepareAt}
 use Rattle.welmuzra.specs.Words.{headerWords, recordOf, wordsAt}
-use Rattle.welmuzra.specs.Calls.{Own, own, lent, says, refuses, kept, stepWords, startWords, readied, prepareWords}
-use Rattle.welmuzra.specs.Promises.{packed, ownOf, wordsOf, StepAsRecords, StartAsRecords, PrepareAsRecords}
+use Rattle.welmuzra.specs.Calls.{Own, own, lent, says, refuses, kept, askWords, readied, prepareWords}
+use Rattle.welmuzra.specs.Promises.{packed, wordsOf, StepAsRecords, StartAsRecords, PrepareAsRecords}
+use Rattle.welmuzra.proofs.Promises.{asked-unchanged}
 use Rattle.welmuzra.proofs.Packed.{record-back, words-packed, stored-packed, few-packed, cleared-packed}
 
 -- a choice between what is made of two things is what is made of the choice
@@ -60,21 +62,24 @@ kept-packed h ws w o back =
     (λ e. let b = back (refusal (o .answer) e) in rw (b .header, b .worker, set-getD ws w idle))
     (λ _. ap (own (says (o .answer) (o .steps)) (headerWords (o .header))) (stored-packed ws w (o .worker)))
 
-pub step-as-records : StepAsRecords
-unfolding stepWords stepAt
-step-as-records h ws w ns bs =
-    let a = stepOf (turnAt h ws w) ns bs in
+-- a call in the words and in the records
+ask-packed :
+    (h : Header) (ws : List Worker) (w : ℕ) (a : Ask) (ns bs : List ℕ)
+    → askWords (headerWords h) (packed ws) w a ns bs ≡ wordsOf (pick (ltb (length ws) (h .w)) (left (crew.refused (crew.tooFew h) h) ws ns bs) (crew.stored ws w (askedOf (turnAt h ws w) a ns bs)))
+unfolding askWords
+ask-packed h ws w a ns bs =
+    let k = askedOf (turnAt h ws w) a ns bs in
     rw (few-packed ws (h .w), taken ws w)
     (chosen wordsOf (ltb (length ws) (h .w)) _ _ _ _ refl
-    (λ _. ap (λ (k : Own). lent k (a .nodes) (a .buckets)) (kept-packed h ws w (a .out) (λ r. step-unchanged (turnAt h ws w) ns bs r .back))))
+    (λ _. ap (λ (o : Own). lent o (k .nodes) (k .buckets)) (kept-packed h ws w (k .out) (λ r. asked-unchanged (turnAt h ws w) a ns bs r .back))))
+
+pub step-as-records : StepAsRecords
+unfolding stepAt
+step-as-records h ws w ns bs = ask-packed h ws w Step ns bs
 
 pub start-as-records : StartAsRecords
-unfolding startWords startAt
-start-as-records h ws w kind key ns bs =
-    let o = startOf (turnAt h ws w) kind key (length ns) (length bs) in
-    rw (few-packed ws (h .w), taken ws w)
-    (chosen ownOf (ltb (length ws) (h .w)) _ _ _ _ refl
-    (λ _. kept-packed h ws w o (start-unchanged (turnAt h ws w) kind key (length ns) (length bs))))
+unfolding startAt
+start-as-records h ws w kind key ns bs = ask-packed h ws w (Start kind key) ns bs
 
 -- what preparing hands back, in the words and in the records
 abbrev Readied : Limits → Header → List Worker → Kept → Type 0

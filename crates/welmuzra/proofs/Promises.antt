@@ -9,7 +9,7 @@ use lib.ListN.{length, getD, take, drop}
 use lib.Seq.{getD-take, getD-drop}
 use borrow.Author.Tests.{le-leb, lt-leb, lt-ltb, le-ltb}
 use Rattle.choice.proofs.Auto.{pick-true, pick-false}
-use Rattle.choice.proofs.Cases.{by-bool}
+use Rattle.choice.proofs.Cases.{by-bool, both}
 use Rattle.names.specs.Names.{D6, numberOf}
 use Rattle.names.specs.declared.Answer.{Answer}
 use Rattle.names.specs.declared.Answer.the-variants.{Damaged}
@@ -21,13 +21,16 @@ use Rattle.prepare.specs.declared.Prepared.{Prepared}
 use Rattle.names.specs.declared.Verdict.{Verdict}
 use Rattle.register.specs.Step.{refusedWith}
 use Rattle.prepare.specs.Prepare.{prepared}
-use Rattle.register.specs.Calls.{startOf, stepVerdict, steppedBy, stepOf}
+use Rattle.register.specs.declared.Ask.{Ask}
+use Rattle.register.specs.declared.Ask.the-variants.{Start, Step}
+use Rattle.register.specs.declared.Turn.{Turn}
+use Rattle.register.specs.Calls.{stepVerdict, steppedBy, stepOf, askedOf}
 use Rattle.promises.specs.Unchanged as un
-use Rattle.promises.proofs.Unchanged.{step-unchanged, prepare-unchanged}
+use Rattle.promises.proofs.Unchanged.{start-unchanged, step-unchanged, prepare-unchanged}
 use Rattle.crew.specs.Crew.{turn}
 use Rattle.welmuzra.specs.Words.{RECORD, zeros, headerOf, placeOf, recordOf, lacks, wordsAt}
-use Rattle.welmuzra.specs.Calls.{Own, own, Lent, lent, says, refuses, kept, turnOf, lacksRecords, stepWords, startWords, readied, prepareWords}
-use Rattle.welmuzra.specs.Promises.{Refused, StepUnchanged, StartUnchanged, PrepareUnchanged, NoRecord}
+use Rattle.welmuzra.specs.Calls.{Own, own, Lent, lent, says, refuses, kept, turnOf, lacksRecords, askWords, readied, prepareWords}
+use Rattle.welmuzra.specs.Promises.{Refused, AskUnchanged, StartWritesNeither, PrepareUnchanged, NoRecord}
 
 -- the test of a refusal, and the refusal
 refused-test : (a : Answer) → 10 ≤ numberOf a → numberOf a ≤ 17 → refuses a ≡ true
@@ -45,28 +48,28 @@ kept-refused : (hs rs : List ℕ) (w : ℕ) (o : Outcome) → un.Refusal (o .ans
 unfolding kept
 kept-refused hs rs w o r = pick-true _ _ _ (refused-test (o .answer) (r .from) (r .upTo))
 
-pub start-words-unchanged : StartUnchanged
-unfolding startWords
-start-words-unchanged hs rs w kind key nodes buckets =
-    by-bool (λ (k : Own). Refused (k .reply) → k ≡ own (k .reply) hs rs) (lacksRecords (length rs) (headerOf hs .w))
-    (λ _ r. refl)
-    (λ _ r.
-    let o = startOf (turnOf hs rs w) kind key nodes buckets in
-    let e = kept-refused hs rs w o (refusal (o .answer) (o .steps) (rw (kept-answer hs rs w o) at r)) in
-    e ∙ ap (λ (k : Own). own (k .reply) hs rs) (sym e))
+-- the register's own call, where it is refused
+pub asked-unchanged : (t : Turn) (a : Ask) (ns bs : List ℕ) → un.Refusal (askedOf t a ns bs .out .answer) → un.Untouched t ns bs (askedOf t a ns bs)
+asked-unchanged t (Start kind key) ns bs r = record { nodes = refl; buckets = refl; back = start-unchanged t kind key (length ns) (length bs) r }
+asked-unchanged t Step ns bs r = step-unchanged t ns bs r
 
-pub step-words-unchanged : StepUnchanged
-unfolding stepWords
-step-words-unchanged hs rs w ns bs =
+pub ask-words-unchanged : AskUnchanged
+unfolding askWords
+ask-words-unchanged hs rs w ask ns bs =
     by-bool (λ (k : Lent). Refused (k .left .reply) → k ≡ lent (own (k .left .reply) hs rs) ns bs) (lacksRecords (length rs) (headerOf hs .w))
     (λ _ r. refl)
     (λ _ r.
     let t = turnOf hs rs w in
-    let o = stepOf t ns bs .out in
+    let o = askedOf t ask ns bs .out in
     let f = refusal (o .answer) (o .steps) (rw (kept-answer hs rs w o) at r) in
-    let u = step-unchanged t ns bs f in
+    let u = asked-unchanged t ask ns bs f in
     let e = kept-refused hs rs w o f in
     rw (u .nodes, u .buckets) (ap (λ (k : Own). lent k ns bs) (e ∙ ap (λ (k : Own). own (k .reply) hs rs) (sym e))))
+
+pub start-writes-neither : StartWritesNeither
+unfolding askWords
+start-writes-neither hs rs w kind key ns bs =
+    both (λ (k : Lent). (k .nodes ≡ ns) × (k .buckets ≡ bs)) (lacksRecords (length rs) (headerOf hs .w)) (refl, refl) (refl, refl)
 
 readied-answer : (w : ℕ) (hs rs : List ℕ) (o : Prepared) → readied w hs rs o .reply ≡ says (o .answer) 0
 unfolding readied
@@ -103,7 +106,7 @@ no-place rs w all bad =
     (pick-true _ _ _ (lt-ltb _ _ bad))
 
 pub no-record : NoRecord
-unfolding stepWords stepOf stepVerdict
+unfolding askWords stepOf stepVerdict
 no-record hs rs w ns bs sound enough long is-worker bad =
     let h = headerOf hs in
     let x = recordOf (wordsAt rs w) in

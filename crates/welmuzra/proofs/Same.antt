@@ -29,12 +29,11 @@ pub prepare-same : (κs : Lfts 4) (a : Dens κs prepare-kinds.ps) (x y : resT pr
     → (x ≡ y) × (now (e .0) ≡ now (f .0)) × (now (e .1 .0) ≡ now (f .1 .0)) × (now (e .1 .1 .0) ≡ now (f .1 .1 .0)) × (now (e .1 .1 .1 .0) ≡ now (f .1 .1 .1 .0))
 prepare-same κs a x y e f p q = same _ x y (now (e .0)) (now (f .0)) (now (e .1 .0)) (now (f .1 .0)) (now (e .1 .1 .0)) (now (f .1 .1 .0)) (now (e .1 .1 .1 .0)) (now (f .1 .1 .1 .0)) p q
 
--- two starts; a start is lent nodes and buckets to read
+-- two starts
 pub start-same : (κs : Lfts 4) (a : Dens κs start-kinds.ps) (x y : resT start-kinds.r κs .Denot) (e f : AtExit (endedOf 4 start-kinds.ps start-kinds.r) κs)
-    → start.Post κs a x e → start.Post κs a y f → (x ≡ y) × (now (e .0) ≡ now (f .0)) × (now (e .1 .0) ≡ now (f .1 .0))
-start-same κs a x y e f p q =
-    let r = p ∙ sym q in
-    (ap (λ (k : Own). k .reply) r, ap (λ (k : Own). k .header) r, ap (λ (k : Own). k .records) r)
+    → start.Post κs a x e → start.Post κs a y f
+    → (x ≡ y) × (now (e .0) ≡ now (f .0)) × (now (e .1 .0) ≡ now (f .1 .0)) × (now (e .1 .1 .0) ≡ now (f .1 .1 .0)) × (now (e .1 .1 .1 .0) ≡ now (f .1 .1 .1 .0))
+start-same κs a x y e f p q = same _ x y (now (e .0)) (now (f .0)) (now (e .1 .0)) (now (f .1 .0)) (now (e .1 .1 .0)) (now (f .1 .1 .0)) (now (e .1 .1 .1 .0)) (now (f .1 .1 .1 .0)) p q
 
 -- two steps
 pub step-same : (κs : Lfts 4) (a : Dens κs step-kinds.ps) (x y : resT step-kinds.r κs .Denot) (e f : AtExit (endedOf 4 step-kinds.ps step-kinds.r) κs)

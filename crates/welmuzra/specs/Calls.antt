@@ -11,9 +11,11 @@ use Rattle.names.specs.declared.Answer.{Answer}
 use Rattle.prepare.specs.declared.Limits.{Limits}
 use Rattle.writes.specs.declared.Outcome.{Outcome}
 use Rattle.prepare.specs.declared.Prepared.{Prepared}
+use Rattle.register.specs.declared.Ask.{Ask}
+use Rattle.register.specs.declared.Ask.the-variants.{Start, Step}
 use Rattle.register.specs.declared.Turn.{Turn}
 use Rattle.prepare.specs.Prepare.{prepared}
-use Rattle.register.specs.Calls.{startOf, stepOf}
+use Rattle.register.specs.Calls.{askedOf}
 use Rattle.crew.specs.Crew.{turn, tooFew, tooFewFor}
 use Rattle.welmuzra.specs.declared.Reply.{Reply}
 use Rattle.welmuzra.specs.Words.{RECORD, headerOf, headerWords, recordOf, recordWords, wordsAt, stored}
@@ -59,20 +61,20 @@ turnOf hs rs w = turn (headerOf hs) w (recordOf (wordsAt rs w))
 abbrev pub lacksRecords : ℕ → ℕ → Bool
 lacksRecords len w = ltb len (w * RECORD)
 
--- fewer than W records: 12, then 11
-abbrev pub few : List ℕ → List ℕ → Own
-few hs rs = own (says (tooFew (headerOf hs)) 0) hs rs
+-- worker w is called; fewer than W records: 12, then 11
+unfoldable pub askWords : List ℕ → List ℕ → ℕ → Ask → List ℕ → List ℕ → Lent
+askWords hs rs w ask ns bs =
+    let a = askedOf (turnOf hs rs w) ask ns bs in
+    pick (lacksRecords (length rs) (headerOf hs .w)) (lent (own (says (tooFew (headerOf hs)) 0) hs rs) ns bs)
+    (lent (kept hs rs w (a .out)) (a .nodes) (a .buckets))
 
 -- one step of worker w
-unfoldable pub stepWords : List ℕ → List ℕ → ℕ → List ℕ → List ℕ → Lent
-stepWords hs rs w ns bs =
-    let a = stepOf (turnOf hs rs w) ns bs in
-    pick (lacksRecords (length rs) (headerOf hs .w)) (lent (few hs rs) ns bs) (lent (kept hs rs w (a .out)) (a .nodes) (a .buckets))
+abbrev pub stepWords : List ℕ → List ℕ → ℕ → List ℕ → List ℕ → Lent
+stepWords hs rs w ns bs = askWords hs rs w Step ns bs
 
--- worker w starts an operation; of nodes and buckets it looks at the lengths alone
-unfoldable pub startWords : List ℕ → List ℕ → ℕ → ℕ → ℕ → ℕ → ℕ → Own
-startWords hs rs w kind key nodes buckets =
-    pick (lacksRecords (length rs) (headerOf hs .w)) (few hs rs) (kept hs rs w (startOf (turnOf hs rs w) kind key nodes buckets))
+-- worker w starts an operation
+abbrev pub startWords : List ℕ → List ℕ → ℕ → ℕ → ℕ → List ℕ → List ℕ → Lent
+startWords hs rs w kind key ns bs = askWords hs rs w (Start kind key) ns bs
 
 -- ---- preparing
 abbrev pub limits : ℕ → ℕ → ℕ → ℕ → Limits

@@ -10,10 +10,11 @@ use Rattle.header.specs.Header.{headerDamaged}
 use Rattle.record.specs.declared.Worker.{Worker}
 use Rattle.prepare.specs.declared.Limits.{Limits}
 use Rattle.header.specs.Header.{isShort}
+use Rattle.register.specs.declared.Ask.{Ask}
 use Rattle.crew.specs.Crew.{Left, stepAt, startAt, prepareAt}
 use Rattle.welmuzra.specs.declared.Reply.{Reply}
 use Rattle.welmuzra.specs.Words.{RECORD, headerOf, headerWords, recordOf, recordWords}
-use Rattle.welmuzra.specs.Calls.{Own, own, Lent, lent, says, stepWords, startWords, prepareWords}
+use Rattle.welmuzra.specs.Calls.{Own, own, Lent, lent, says, askWords, stepWords, startWords, prepareWords}
 
 -- ---- there and back
 -- a header and a record are what their words are
@@ -39,20 +40,21 @@ pub record Refused (r : Reply) : Type 0 where
   pub from : 10 ≤ r .answer
   pub upTo : r .answer ≤ 17
 
-abbrev pub StepUnchanged : Type 0
-StepUnchanged =
-    (hs rs : List ℕ) (w : ℕ) (ns bs : List ℕ) → Refused (stepWords hs rs w ns bs .left .reply)
-    → stepWords hs rs w ns bs ≡ lent (own (stepWords hs rs w ns bs .left .reply) hs rs) ns bs
-
-abbrev pub StartUnchanged : Type 0
-StartUnchanged =
-    (hs rs : List ℕ) (w kind key nodes buckets : ℕ) → Refused (startWords hs rs w kind key nodes buckets .reply)
-    → startWords hs rs w kind key nodes buckets ≡ own (startWords hs rs w kind key nodes buckets .reply) hs rs
+abbrev pub AskUnchanged : Type 0
+AskUnchanged =
+    (hs rs : List ℕ) (w : ℕ) (ask : Ask) (ns bs : List ℕ) → Refused (askWords hs rs w ask ns bs .left .reply)
+    → askWords hs rs w ask ns bs ≡ lent (own (askWords hs rs w ask ns bs .left .reply) hs rs) ns bs
 
 abbrev pub PrepareUnchanged : Type 0
 PrepareUnchanged =
     (l : Limits) (hs rs ns bs : List ℕ) → Refused (prepareWords l hs rs ns bs .left .reply)
     → prepareWords l hs rs ns bs ≡ lent (own (prepareWords l hs rs ns bs .left .reply) hs rs) ns bs
+
+-- ---- a start writes neither nodes nor buckets
+abbrev pub StartWritesNeither : Type 0
+StartWritesNeither =
+    (hs rs : List ℕ) (w kind key : ℕ) (ns bs : List ℕ)
+    → (startWords hs rs w kind key ns bs .nodes ≡ ns) × (startWords hs rs w kind key ns bs .buckets ≡ bs)
 
 -- ---- a mark that is neither 0 nor 1 makes no record: where header, lengths and worker's number pass, a step is 12
 abbrev pub NoRecord : Type 0
@@ -80,7 +82,7 @@ StepAsRecords = (h : Header) (ws : List Worker) (w : ℕ) (ns bs : List ℕ) →
 abbrev pub StartAsRecords : Type 0
 StartAsRecords =
     (h : Header) (ws : List Worker) (w kind key : ℕ) (ns bs : List ℕ)
-    → startWords (headerWords h) (packed ws) w kind key (length ns) (length bs) ≡ ownOf (startAt h ws w kind key ns bs)
+    → startWords (headerWords h) (packed ws) w kind key ns bs ≡ wordsOf (startAt h ws w kind key ns bs)
 
 abbrev pub PrepareAsRecords : Type 0
 PrepareAsRecords =

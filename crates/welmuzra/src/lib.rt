@@ -1,17 +1,19 @@
 // The register as a library that C links, over plain words: any word is a word, where a caller's bool or struct could be none.
 ghost use mathlib.Core.Path.{_≡_};
 ghost use mathlib.Core.Bool.{false};
-ghost use Prim.Native.Nat.{_≤_};
+ghost use Prim.Native.Nat.{_+_, _*_, _≤_};
 ghost use lib.ListN.{length};
-ghost use Rattle.crew.specs.Crew.{tooFew, tooFewFor};
-ghost use Rattle.welmuzra.specs.Words.{headerOf, headerWords, placeOf, recordOf, recordWords, wordsAt, stored};
-ghost use Rattle.welmuzra.specs.Calls.{own, lent, turnOf, lacksRecords, says, refuses, kept, stepWords, startWords, limits, readied, prepareWords};
+ghost use Rattle.crew.specs.Crew.{tooFewFor};
+ghost use Rattle.crew.specs.One.{noneOf};
+ghost use Rattle.welmuzra.specs.Words.{RECORD, headerOf, headerWords, placeOf, recordOf, recordWords, wordsAt, stored};
+ghost use Rattle.welmuzra.specs.Calls.{own, lent, lacksRecords, says, refuses, kept, askWords, stepWords, startWords, limits, readied, prepareWords};
 use header::Header;
 use names::Answer;
 use names::place;
 use prepare::Limits;
 use prepare::Prepared;
 use record::Worker;
+use register::Ask;
 use register::Turn;
 use writes::Outcome;
 
@@ -54,14 +56,12 @@ fn place_of(mark: u32, place: u32) -> u32
     place
 }
 
-// Record w; past the table its words are 0.
+// Record w of a table that has it.
 fn record_at(records: &[u32], w: u32) -> Worker
+    requires { ⌜ w * RECORD + RECORD ≤ length (now records) ⌝ }
     ensures { λ r. ⌜ r ≡ recordOf (wordsAt (now (records .entry)) w) ⌝ }
 {
     let at = (w as usize) * 15;
-    if records.len() < at + 15 {
-        return Worker::fresh(place::IDLE, 0, 0);
-    }
     let words = &records[at..at + 15];
     Worker {
         place: place_of(words[11], words[0]),
@@ -114,19 +114,6 @@ fn store_record(records: &mut [u32], w: u32, x: Worker)
     }
 }
 
-// What worker w's call goes by: the header and its record.
-fn turn_of(header: [u32; 7], records: &[u32], w: u32) -> Turn
-    ensures { λ r. ⌜ r ≡ turnOf header (now (records .entry)) w ⌝ }
-{
-    let h = header_of(header);
-    let worker = record_at(records, w);
-    Turn {
-        number: w,
-        header: h,
-        worker,
-    }
-}
-
 // So many words are fewer than W records.
 fn lacks_records(len: usize, w: u32) -> bool
     ensures { λ r. ⌜ r ≡ lacksRecords len w ⌝ }
@@ -134,23 +121,32 @@ fn lacks_records(len: usize, w: u32) -> bool
     (len as u64) < (w as u64) * 15
 }
 
-// 12, then 11: there are fewer records than W.
-fn too_few(header: Header) -> Reply
-    ensures { λ r. ⌜ r ≡ says (tooFew header) 0 ⌝ }
+// What a refused call answers.
+fn refused(answer: Answer) -> Reply
+    ensures { λ r. ⌜ r ≡ says answer 0 ⌝ }
 {
-    let mut answer = Answer::Short;
-    if header.damaged() {
-        answer = Answer::Damaged;
-    }
     Reply {
         answer: answer.number(),
         steps: 0,
     }
 }
 
+// A worker that there is not: 12, then 11 where there are too few records or words, then 13.
+fn none(header: Header, few: bool, nodes: usize, buckets: usize) -> Answer
+    ensures { λ r. ⌜ r ≡ noneOf header few nodes buckets ⌝ }
+{
+    if header.damaged() {
+        return Answer::Damaged;
+    }
+    if few | header.short(nodes, buckets) {
+        return Answer::Short;
+    }
+    Answer::NoWorker
+}
+
 // 10, then 11: there are fewer records than the W that is asked for.
-fn too_few_for(limits: Limits) -> Reply
-    ensures { λ r. ⌜ r ≡ says (tooFewFor limits) 0 ⌝ }
+fn too_few_for(limits: Limits) -> Answer
+    ensures { λ r. ⌜ r ≡ tooFewFor limits ⌝ }
 {
     let fresh = Header {
         m: limits.m,
@@ -161,17 +157,13 @@ fn too_few_for(limits: Limits) -> Reply
         count: 0,
         busy: 0,
     };
-    let mut answer = Answer::Short;
     if fresh.limit_broken() {
-        answer = Answer::Limit;
+        return Answer::Limit;
     }
-    Reply {
-        answer: answer.number(),
-        steps: 0,
-    }
+    Answer::Short
 }
 
-// What a start or a step hands back goes into the words, unless it is refused.
+// What a call hands back goes into the words, unless it is refused.
 fn keep(header: &mut [u32; 7], records: &mut [u32], w: u32, out: Outcome) -> Reply
     ensures { λ r. ⌜ own r (now (header .exit)) (now (records .exit)) ≡ kept (now (header .entry)) (now (records .entry)) w out ⌝ }
 {
@@ -192,6 +184,34 @@ fn keep(header: &mut [u32; 7], records: &mut [u32], w: u32, out: Outcome) -> Rep
     }
 }
 
+// Worker w is called: the register's own call on the record that its words are.
+fn serve(
+    header: &mut [u32; 7],
+    records: &mut [u32],
+    nodes: &mut [u32],
+    buckets: &mut [u32],
+    w: u32,
+    ask: Ask,
+) -> Reply
+    ensures { λ r. ⌜ lent (own r (now (header .exit)) (now (records .exit))) (now (nodes .exit)) (now (buckets .exit)) ≡ askWords (now (header .entry)) (now (records .entry)) w ask (now (nodes .entry)) (now (buckets .entry)) ⌝ }
+{
+    let h = header_of(*header);
+    if lacks_records(records.len(), h.w) {
+        return refused(none(h, true, nodes.len(), buckets.len()));
+    }
+    if h.w <= w {
+        return refused(none(h, false, nodes.len(), buckets.len()));
+    }
+    let worker = record_at(&records[..], w);
+    let turn = Turn {
+        number: w,
+        header: h,
+        worker,
+    };
+    let out = turn.call(ask, nodes, buckets);
+    keep(header, records, w, out)
+}
+
 // One step of worker w.
 #[no_mangle]
 pub extern "C" fn welmuzra_step(
@@ -203,33 +223,23 @@ pub extern "C" fn welmuzra_step(
 ) -> Reply
     ensures { λ r. ⌜ lent (own r (now (header .exit)) (now (records .exit))) (now (nodes .exit)) (now (buckets .exit)) ≡ stepWords (now (header .entry)) (now (records .entry)) w (now (nodes .entry)) (now (buckets .entry)) ⌝ }
 {
-    let turn = turn_of(*header, &records[..], w);
-    if lacks_records(records.len(), turn.header.w) {
-        return too_few(turn.header);
-    }
-    let out = turn.step(nodes, buckets);
-    keep(header, records, w, out)
+    serve(header, records, nodes, buckets, w, Ask::Step)
 }
 
-// Worker w starts an operation of this kind on this key.
+// Worker w starts an operation of this kind on this key; nodes and buckets stay as they are.
 #[no_mangle]
 pub extern "C" fn welmuzra_start(
     header: &mut [u32; 7],
     records: &mut [u32],
-    nodes: &[u32],
-    buckets: &[u32],
+    nodes: &mut [u32],
+    buckets: &mut [u32],
     w: u32,
     kind: u32,
     key: u32,
 ) -> Reply
-    ensures { λ r. ⌜ own r (now (header .exit)) (now (records .exit)) ≡ startWords (now (header .entry)) (now (records .entry)) w kind key (length (now (nodes .entry))) (length (now (buckets .entry))) ⌝ }
+    ensures { λ r. ⌜ lent (own r (now (header .exit)) (now (records .exit))) (now (nodes .exit)) (now (buckets .exit)) ≡ startWords (now (header .entry)) (now (records .entry)) w kind key (now (nodes .entry)) (now (buckets .entry)) ⌝ }
 {
-    let turn = turn_of(*header, &records[..], w);
-    if lacks_records(records.len(), turn.header.w) {
-        return too_few(turn.header);
-    }
-    let out = turn.start(kind, key, nodes, buckets);
-    keep(header, records, w, out)
+    serve(header, records, nodes, buckets, w, Ask::Start { kind, key })
 }
 
 // What preparing hands back goes into the words, unless it is refused.
@@ -270,7 +280,7 @@ pub extern "C" fn welmuzra_prepare(
 {
     let limits = Limits { m, k, w, l };
     if lacks_records(records.len(), w) {
-        return too_few_for(limits);
+        return refused(too_few_for(limits));
     }
     let out = limits.prepare(header_of(*header), nodes, buckets);
     ready(header, records, w, out)

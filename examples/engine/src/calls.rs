@@ -45,9 +45,9 @@ mod raw {
             header: *mut Header,
             records: *mut u32,
             records_len: usize,
-            nodes: *const u32,
+            nodes: *mut u32,
             nodes_len: usize,
-            buckets: *const u32,
+            buckets: *mut u32,
             buckets_len: usize,
             worker: u32,
             kind: u32,
@@ -99,25 +99,25 @@ pub fn prepare(
     }
 }
 
-/// A worker's operation begins; of nodes and buckets only the lengths are looked at.
+/// A worker's operation begins; nodes and buckets stay as they are.
 pub fn start(
     header: &mut [u32; HEADER_WORDS],
     records: &mut [u32],
-    nodes: &[u32],
-    buckets: &[u32],
+    nodes: &mut [u32],
+    buckets: &mut [u32],
     worker: u32,
     kind: u32,
     key: u32,
 ) -> Reply {
-    // SAFETY: two exclusive and two shared borrows of words, each passed with its own length; the call has no other condition.
+    // SAFETY: four exclusive borrows of words, each passed with its own length; the call has no other condition.
     unsafe {
         raw::welmuzra_start(
             header,
             records.as_mut_ptr(),
             records.len(),
-            nodes.as_ptr(),
+            nodes.as_mut_ptr(),
             nodes.len(),
-            buckets.as_ptr(),
+            buckets.as_mut_ptr(),
             buckets.len(),
             worker,
             kind,

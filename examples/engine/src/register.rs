@@ -63,8 +63,8 @@ impl Register {
         let reply = calls::start(
             &mut self.header,
             &mut self.records,
-            &self.nodes,
-            &self.buckets,
+            &mut self.nodes,
+            &mut self.buckets,
             worker,
             kind as u32,
             key,

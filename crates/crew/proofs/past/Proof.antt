@@ -4,7 +4,7 @@ use mathlib.Core.Path.{refl, ap, _∙_}
 use Rattle.choice.proofs.Auto.{then-is, else-is}
 use Rattle.names.specs.declared.Answer.{Answer}
 use Rattle.crew.specs.Crew.{refused}
-use Rattle.crew.specs.One.{pastOf}
+use Rattle.crew.specs.One.{noneOf}
 use borrow.Author.Needs.{needs}
 use Rattle.crew.proofs.past.Statement.{statement}
 use Rattle.crew.proofs.past.Tie as tie
@@ -16,7 +16,7 @@ refused-requires : tie.Need-refused-requires
 refused-requires c κs = tt
 
 returns : tie.Need-returns
-unfolding pastOf
+unfolding noneOf
 returns c = c .refused .ensures ∙ ap (λ (a : Answer). refused a (c .before .before .before .args .header)) (then-is _ _ _ _ (rw (← c .before .before .damaged .ensures) (c .before .if1 .taken)) refl)
 
 short-requires : tie.Need-short-requires
@@ -29,7 +29,7 @@ refused-requires-2 : tie.Need-refused-requires-2
 refused-requires-2 c κs = tt
 
 returns-2 : tie.Need-returns-2
-unfolding pastOf
+unfolding noneOf
 returns-2 c =
     c .refused2 .ensures ∙
     ap (λ (a : Answer). refused a (c .before .before .before .before .before .before .args .header))
@@ -40,7 +40,7 @@ refused-requires-3 : tie.Need-refused-requires-3
 refused-requires-3 c κs = tt
 
 returns-3 : tie.Need-returns-3
-unfolding pastOf
+unfolding noneOf
 returns-3 c =
     c .refused3 .ensures ∙
     ap (λ (a : Answer). refused a (c .before .before .before .before .before .before .args .header))

@@ -23,8 +23,8 @@ returns c = then-is _ _ _ _ (lt-ltb _ _ (c .before .before .if1 .taken)) (rw (c 
 enum-known-call : tie.Need-enum-known-call
 enum-known-call c = search needs
 
-start-requires : tie.Need-start-requires
-start-requires c κs = tt
+call-requires : tie.Need-call-requires
+call-requires c κs = tt
 
 apart-requires : tie.Need-apart-requires
 apart-requires c κs = tt
@@ -52,7 +52,7 @@ same-length-2 c = search needs
 
 returns-2 : tie.Need-returns-2
 unfolding serveOne
-returns-2 c = else-is _ _ _ _ (le-ltb _ _ (c .before .before .before .before .before .before .before .if1 .left)) (rw (c .before .before .before .before .before .call .given .1, c .apart .ensures, c .before .start .ensures))
+returns-2 c = else-is _ _ _ _ (le-ltb _ _ (c .before .before .before .before .before .before .before .before .before .before .before .if1 .left)) (rw (c .before .before .before .before .before .before .before .before .before .call .given .1, c .apart .ensures) (c .before .before .before .before .before .call2 .ensures))
 
 same-length-3 : tie.Need-same-length-3
 same-length-3 c = search needs
@@ -62,7 +62,7 @@ same-length-4 c = search needs
 
 returns-3 : tie.Need-returns-3
 unfolding serveOne
-returns-3 c = else-is _ _ _ _ (le-ltb _ _ (c .before .before .before .before .before .before .before .before .before .before .before .if1 .left)) (rw (c .before .before .before .before .before .before .before .before .before .call2 .given .1, c .apart2 .ensures) (c .before .before .before .before .before .steps-one .ensures))
+returns-3 c = else-is _ _ _ _ (le-ltb _ _ (c .before .before .before .before .before .before .before .before .before .before .before .if1 .left)) (rw (c .before .before .before .before .before .before .before .before .before .call3 .given .1, c .apart2 .ensures) (c .before .before .before .before .before .steps-one .ensures))
 
 pub serve-one-spec : {M : Type 1} → statement M
 serve-one-spec =
@@ -73,7 +73,7 @@ serve-one-spec =
     refused-requires
     returns
     enum-known-call
-    start-requires
+    call-requires
     apart-requires
     enum-known-call-2
     cast-most

@@ -22,8 +22,8 @@ loop-holds c = (refl, refl, refl)
 goes-on-requires : tie.Need-goes-on-requires Inv-loop μ-loop
 goes-on-requires c κs = tt
 
-step-requires : tie.Need-step-requires Inv-loop μ-loop
-step-requires c κs = tt
+call-requires : tie.Need-call-requires Inv-loop μ-loop
+call-requires c κs = tt
 
 sub-left : tie.Need-sub-left Inv-loop μ-loop
 sub-left c = omega (arith, turns-left (c .before .before .before .before .before .before .before .before .before .before .before .loop .left) (c .before .before .before .before .before .before .before .before .before .before .goes-on .result) (c .before .before .before .before .before .before .before .before .before .if1 .taken))
@@ -36,9 +36,9 @@ loop-again c =
     let l = c .before .before .before .before .before .before .before .before .before .before .before .loop in
     let a = c .before .before .before .before .before .before .before .before .before .before .before .before .before .before .args in
     let test = rw (c .before .before .before .before .before .before .before .before .before .before .goes-on .ensures) at (c .before .before .before .before .before .before .before .before .before .if1 .taken) in (
-      c .before .before .before .before .step .kept .1 .0 ∙ l .inv .0,
-      c .before .before .before .before .step .kept .1 .1 .0 ∙ l .inv .1,
-      ap (mostOf (a .w) (l .left - 1)) (c .before .before .before .before .step .ensures) ∙ sym (most-on (a .w) (l .left) (after (l .out) (l .nodes) (l .buckets)) test) ∙ l .inv .2,
+      c .before .before .before .before .call .kept .1 .1 .0 ∙ l .inv .0,
+      c .before .before .before .before .call .kept .1 .1 .1 .0 ∙ l .inv .1,
+      ap (mostOf (a .w) (l .left - 1)) (c .before .before .before .before .call .ensures) ∙ sym (most-on (a .w) (l .left) (after (l .out) (l .nodes) (l .buckets)) test) ∙ l .inv .2,
     )
 
 same-length : tie.Need-same-length Inv-loop μ-loop
@@ -62,7 +62,7 @@ steps-one-spec =
     μ-loop
     loop-holds
     goes-on-requires
-    step-requires
+    call-requires
     sub-left
     loop-less
     loop-again

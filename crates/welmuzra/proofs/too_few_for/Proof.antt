@@ -1,26 +1,21 @@
--- Whichever way the test went, the answer is the definition's, and its number is what the callee gives.
+-- The test that was passed says which way the definition goes.
 -- Assumes nothing.
-use mathlib.Core.Path.{_≡_, sym, ap, _∙_}
-use mathlib.Core.Logic.{⊎-elim}
-use Rattle.choice.proofs.Auto.{pick-true, pick-false}
-use Rattle.names.specs.declared.Answer.{Answer}
+use mathlib.Core.Path.{refl, sym, _∙_}
+use Rattle.choice.proofs.Auto.{then-is, else-is}
 use Rattle.crew.specs.Crew.{tooFewFor}
-use Rattle.welmuzra.specs.Calls.{says}
 use Rattle.welmuzra.proofs.too_few_for.Statement.{statement}
 use Rattle.welmuzra.proofs.too_few_for.Tie as tie
 
 limit-broken-requires : tie.Need-limit-broken-requires
 limit-broken-requires c κs = tt
 
-number-requires : tie.Need-number-requires
-number-requires c κs = tt
-
 returns : tie.Need-returns
 unfolding tooFewFor
-returns c =
-    let e = sym (c .before .before .limit-broken .ensures) in
-    let a : c .before .if1 .answer ≡ tooFewFor (c .before .before .before .args .limits) = ⊎-elim (λ t. t .1 ∙ sym (pick-true _ _ _ (e ∙ t .0 .taken))) (λ t. t .1 ∙ sym (pick-false _ _ _ (e ∙ t .0 .left))) (c .before .if1 .came) in
-    rw (c .number .ensures) (ap (λ (a : Answer). says a 0) a)
+returns c = then-is _ _ _ _ (sym (c .before .limit-broken .ensures) ∙ c .if1 .taken) refl
+
+returns-2 : tie.Need-returns-2
+unfolding tooFewFor
+returns-2 c = else-is _ _ _ _ (sym (c .before .limit-broken .ensures) ∙ c .if1 .left) refl
 
 pub too-few-for-spec : {M : Type 1} → statement M
-too-few-for-spec = tie.close (tie.spec limit-broken-requires number-requires returns)
+too-few-for-spec = tie.close (tie.spec limit-broken-requires returns returns-2)

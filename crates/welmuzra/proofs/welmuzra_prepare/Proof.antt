@@ -16,10 +16,13 @@ lacks-records-requires c κs = tt
 too-few-for-requires : tie.Need-too-few-for-requires
 too-few-for-requires c κs = tt
 
+refused-requires : tie.Need-refused-requires
+refused-requires c κs = tt
+
 returns : tie.Need-returns
 unfolding prepareWords
 returns c =
-    then-is _ _ _ _ (sym (c .before .before .lacks-records .ensures) ∙ c .before .if1 .taken) (rw (c .too-few-for .ensures))
+    then-is _ _ _ _ (sym (c .before .before .before .lacks-records .ensures) ∙ c .before .before .if1 .taken) (rw (c .refused .ensures, c .before .too-few-for .ensures))
 
 header-of-requires : tie.Need-header-of-requires
 header-of-requires c κs = tt
@@ -54,6 +57,7 @@ welmuzra-prepare-spec =
     (tie.spec
     lacks-records-requires
     too-few-for-requires
+    refused-requires
     returns
     header-of-requires
     prepare-requires

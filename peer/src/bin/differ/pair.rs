@@ -155,8 +155,8 @@ impl Pair {
         let reply = welmuzra::start(
             &mut self.header,
             &mut self.records[..self.lengths.records],
-            &self.nodes[..self.lengths.nodes],
-            &self.buckets[..self.lengths.buckets],
+            &mut self.nodes[..self.lengths.nodes],
+            &mut self.buckets[..self.lengths.buckets],
             worker,
             kind,
             key,

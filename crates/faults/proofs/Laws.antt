@@ -1,0 +1,100 @@
+-- The rows in the order in which the code asks them. Rows that speak of other places than the record's are false, and an idle record that is all 0 has none of those that the code leaves out.
+-- Assumes nothing.
+use Prim.Native.Nat.{ℕ, _≤_, _<_}
+use native.Mathlib.Omega.{arith}
+use mathlib.Core.Path.{_≡_, refl, ap, _∙_}
+use mathlib.Core.Bool.{Bool, true, false, true≢false, false≢true, _||_, or-true, or-false, and-false}
+use lib.Dec.{leb}
+use borrow.Author.Tests.{ne-eqb, lt-leb, le-ltb}
+use Rattle.names.specs.Names.{IDLE, I1, B2, B4, F1, L2, B8, I8, I9, I10, D4A, D6}
+use Rattle.header.specs.Header.{nodesOf}
+use Rattle.header.specs.declared.Header.{Header}
+use Rattle.record.specs.declared.Worker.{Worker}
+use Rattle.record.specs.Worker.{within, idle}
+use Rattle.faults.specs.Faults.{unknownName, keyAbove, bucketBeyond, nodeBeyond, bitDisagrees, idleNotZero, kindMisfit, errandMisfit, makingAstray, sizeMisfit, misfits, workerDamaged}
+use Rattle.faults.proofs.Idle.{is-idle}
+
+-- a place before or after those from low to high
+before : (low high p : ℕ) → p < low → within low high p ≡ false
+before low high p l = rw (lt-leb low p l)
+
+after : (low high p : ℕ) → high < p → within low high p ≡ false
+after low high p l = rw (lt-leb p high l, and-false (leb low p))
+
+-- the rows of a place that the record does not stand at
+no-errand : (x : Worker) → within F1 L2 (x .place) ≡ false → (x .place ≡ L2 → ⊥) → errandMisfit x ≡ false
+unfolding errandMisfit
+no-errand x w n = rw (w, ne-eqb (x .place) L2 n)
+
+no-size : (h : Header) (x : Worker) → x .place < I9 → sizeMisfit h x ≡ false
+unfolding sizeMisfit
+no-size h x l = rw (before I9 I10 (x .place) l)
+
+no-kind : (x : Worker) → F1 ≤ x .place → x .place ≤ L2 → kindMisfit x ≡ false
+unfolding kindMisfit
+no-kind x l u = rw (ne-eqb (x .place) I1 (λ e. omega arith), before I8 I10 (x .place) (omega arith), before D4A D6 (x .place) (omega arith))
+
+no-making : (x : Worker) → F1 ≤ x .place → x .place ≤ L2 → makingAstray x ≡ false
+unfolding makingAstray
+no-making x l u = rw (ne-eqb (x .place) B2 (λ e. omega arith), ne-eqb (x .place) B4 (λ e. omega arith), ne-eqb (x .place) B8 (λ e. omega arith))
+
+-- before a search's places, at one of them, and after
+pub misfits-before : (h : Header) (x : Worker) → x .place < F1 → misfits h x ≡ (kindMisfit x || makingAstray x)
+misfits-before h x l = rw (no-errand x (before F1 L2 (x .place) l) (λ e. omega arith), no-size h x (omega arith), or-false (kindMisfit x), or-false (kindMisfit x || makingAstray x))
+
+pub misfits-within : (h : Header) (x : Worker) → F1 ≤ x .place → x .place ≤ L2 → misfits h x ≡ errandMisfit x
+misfits-within h x l u = rw (no-kind x l u, no-making x l u, no-size h x (omega arith), or-false (errandMisfit x), or-false (errandMisfit x))
+
+pub misfits-after : (h : Header) (x : Worker) → L2 < x .place → misfits h x ≡ (kindMisfit x || makingAstray x || sizeMisfit h x)
+misfits-after h x l = rw (no-errand x (after F1 L2 (x .place) l) (λ e. omega arith), or-false (kindMisfit x))
+
+-- ---- all ten rows, in the definition's order: name, key, bucket, node, bit, idle, and the four of the place
+abbrev rows : Bool → Bool → Bool → Bool → Bool → Bool → Bool → Bool
+rows name key bucket node bit idle misfit = name || key || bucket || node || bit || idle || misfit
+
+-- bit or bucket alone
+first : (a b c d e f g : Bool) → (e || c) ≡ true → rows a b c d e f g ≡ true
+first a b true d e f g t = rw (or-true (a || b))
+first a b false d true f g t = rw (or-true (a || b || false || d))
+first a b false d false f g t = absurd (false≢true t)
+
+-- neither, and the record is not idle
+busy : (a b d g : Bool) → rows a b false d false false g ≡ (a || b || d || g)
+busy true b d g = refl
+busy false true d g = refl
+busy false false true g = refl
+busy false false false g = refl
+
+-- an idle record: its own row, since the others that are left are false where that one is
+idle-rows : (a b d f g : Bool) → (f ≡ false → rows a b false d false false g ≡ false) → rows a b false d false f g ≡ f
+idle-rows a b d true g e = rw (or-true (a || b || false || d || false))
+idle-rows a b d false g e = e refl
+
+no-rows : (h : Header) → rows (unknownName idle) (keyAbove 0) false (nodeBeyond (nodesOf h) idle) false false (misfits h idle) ≡ false
+unfolding unknownName nodeBeyond kindMisfit errandMisfit makingAstray sizeMisfit
+no-rows h = rw (le-ltb (nodesOf h) 0 (omega arith))
+
+-- ---- what the code asks, in its order
+pub damaged-first : (h : Header) (w : ℕ) (x : Worker) → (bitDisagrees h w x || bucketBeyond h x) ≡ true → workerDamaged h w x ≡ true
+unfolding workerDamaged
+damaged-first h w x t = first (unknownName x) (keyAbove (x .key)) (bucketBeyond h x) (nodeBeyond (nodesOf h) x) (bitDisagrees h w x) (idleNotZero x) (misfits h x) t
+
+neither : (e c : Bool) → (e || c) ≡ false → (e ≡ false) × (c ≡ false)
+neither true c t = absurd (true≢false t)
+neither false c t = (refl, t)
+
+pub damaged-idle : (h : Header) (w : ℕ) (x : Worker) → (bitDisagrees h w x || bucketBeyond h x) ≡ false → x .place ≡ IDLE → workerDamaged h w x ≡ idleNotZero x
+unfolding workerDamaged
+damaged-idle h w x t p =
+    let n = neither (bitDisagrees h w x) (bucketBeyond h x) t in
+    rw (n .0, n .1)
+    (idle-rows (unknownName x) (keyAbove (x .key)) (nodeBeyond (nodesOf h) x) (idleNotZero x) (misfits h x)
+    (λ e. ap (λ (y : Worker). rows (unknownName y) (keyAbove (y .key)) false (nodeBeyond (nodesOf h) y) false false (misfits h y)) (is-idle x p e) ∙ no-rows h))
+
+pub damaged-busy : (h : Header) (w : ℕ) (x : Worker) → (bitDisagrees h w x || bucketBeyond h x) ≡ false → (x .place ≡ IDLE → ⊥)
+    → workerDamaged h w x ≡ (unknownName x || keyAbove (x .key) || nodeBeyond (nodesOf h) x || misfits h x)
+unfolding workerDamaged idleNotZero
+damaged-busy h w x t p =
+    let n = neither (bitDisagrees h w x) (bucketBeyond h x) t in
+    rw (n .0, n .1, ne-eqb (x .place) IDLE p)
+    (busy (unknownName x) (keyAbove (x .key)) (nodeBeyond (nodesOf h) x) (misfits h x))
