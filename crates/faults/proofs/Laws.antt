@@ -3,10 +3,12 @@
 use Prim.Native.Nat.{ℕ, _≤_, _<_}
 use native.Mathlib.Omega.{arith}
 use mathlib.Core.Path.{_≡_, refl, ap, _∙_}
-use mathlib.Core.Bool.{Bool, true, false, true≢false, false≢true, _||_, or-true, or-false, and-false}
-use lib.Dec.{leb}
-use borrow.Author.Tests.{ne-eqb, lt-leb, le-ltb}
-use Rattle.names.specs.Names.{IDLE, I1, B2, B4, F1, L2, B8, I8, I9, I10, D4A, D6}
+use mathlib.Core.Logic.{⊎-elim}
+use mathlib.Core.Bool.{Bool, true, false, true≢false, false≢true, not, _||_, _&&_, or-true, or-false, and-true, and-false, and-assoc}
+use lib.Dec.{leb, eqb}
+use borrow.Author.Tests.{ne-eqb, lt-leb, le-ltb, eqb-true}
+use Rattle.choice.proofs.Telling.{tells-eq, tells-le, tells-or, tells-and}
+use Rattle.names.specs.Names.{IDLE, I1, B2, B4, F1, L2, B8, I8, I9, I10, D4A, D6, KEY, DUMMY, EXTRA, INSERT, DELETE}
 use Rattle.header.specs.Header.{nodesOf}
 use Rattle.header.specs.declared.Header.{Header}
 use Rattle.record.specs.declared.Worker.{Worker}
@@ -47,6 +49,58 @@ misfits-within h x l u = rw (no-kind x l u, no-making x l u, no-size h x (omega 
 
 pub misfits-after : (h : Header) (x : Worker) → L2 < x .place → misfits h x ≡ (kindMisfit x || makingAstray x || sizeMisfit h x)
 misfits-after h x l = rw (no-errand x (after F1 L2 (x .place) l) (λ e. omega arith), or-false (kindMisfit x))
+
+-- ---- the two rows of kind and errand, as the code asks them
+both : (s t : Bool) → (s && t) ≡ true → (s ≡ true) × (t ≡ true)
+both true t e = (refl, e)
+both false t e = absurd (false≢true e)
+
+module _ (x : Worker) where
+  abbrev inserts : Bool
+  inserts = eqb (x .place) I1 || within I8 I10 (x .place)
+
+  -- an insert's place is no delete's
+  no-delete : inserts ≡ true → within D4A D6 (x .place) ≡ false
+  no-delete e =
+      ⊎-elim (λ at. before D4A D6 (x .place) (omega arith)) (λ in′. before D4A D6 (x .place) (omega (arith, in′ .1)))
+      (tells-or (tells-eq (x .place) I1) (tells-and (tells-le I8 (x .place)) (tells-le (x .place) I10)) .sound e)
+
+  pub kind-inserts : inserts ≡ true → kindMisfit x ≡ not (eqb (x .kind) INSERT)
+  unfolding kindMisfit
+  kind-inserts e = rw (no-delete e, e, or-false (not (eqb (x .kind) INSERT)))
+
+  pub kind-deletes : inserts ≡ false → within D4A D6 (x .place) ≡ true → kindMisfit x ≡ not (eqb (x .kind) DELETE)
+  unfolding kindMisfit
+  kind-deletes e f = rw (e, f)
+
+  pub kind-neither : inserts ≡ false → within D4A D6 (x .place) ≡ false → kindMisfit x ≡ false
+  unfolding kindMisfit
+  kind-neither e f = rw (e, f)
+
+  abbrev extra : Bool
+  extra = eqb (x .errand) EXTRA && not (eqb (x .kind) DELETE)
+
+  at-search : (p : ℕ) → (eqb p L2 || within F1 L2 p) ≡ within F1 L2 p
+  at-search p = by (eqb p L2) refl
+    where
+      by : (t : Bool) → eqb p L2 ≡ t → (t || within F1 L2 p) ≡ within F1 L2 p
+      by true e = rw (eqb-true p L2 e)
+      by false e = refl
+
+  pub errand-extra : extra ≡ true → errandMisfit x ≡ within F1 L2 (x .place)
+  unfolding errandMisfit
+  errand-extra e =
+      let b = both (eqb (x .errand) EXTRA) (not (eqb (x .kind) DELETE)) e in
+      rw (b .1, eqb-true (x .errand) EXTRA (b .0), and-true (eqb (x .place) L2), and-true (within F1 L2 (x .place)), and-true (within F1 L2 (x .place)))
+      (at-search (x .place))
+
+  pub errand-placing : extra ≡ false → x .place ≡ L2 → errandMisfit x ≡ not (eqb (x .errand) DUMMY || (eqb (x .errand) KEY && eqb (x .kind) INSERT))
+  unfolding errandMisfit
+  errand-placing e p = rw (p, e, or-false (not (eqb (x .errand) DUMMY || (eqb (x .errand) KEY && eqb (x .kind) INSERT))))
+
+  pub errand-other : extra ≡ false → (x .place ≡ L2 → ⊥) → errandMisfit x ≡ false
+  unfolding errandMisfit
+  errand-other e p = rw (ne-eqb (x .place) L2 p, and-assoc (within F1 L2 (x .place)) (eqb (x .errand) EXTRA) (not (eqb (x .kind) DELETE)), e, and-false (within F1 L2 (x .place)))
 
 -- ---- all ten rows, in the definition's order: name, key, bucket, node, bit, idle, and the four of the place
 abbrev rows : Bool → Bool → Bool → Bool → Bool → Bool → Bool → Bool

@@ -74,19 +74,26 @@ fn idle_not_zero(x: Worker) -> bool
 fn kind_misfit(x: Worker) -> bool
     ensures { λ r. ⌜ r ≡ kindMisfit x ⌝ }
 {
-    (((x.place == place::I1) | ((place::I8 <= x.place) & (x.place <= place::I10)))
-        & !(x.kind == kind::INSERT))
-        | (((place::D4A <= x.place) & (x.place <= place::D6)) & !(x.kind == kind::DELETE))
+    if (x.place == place::I1) | ((place::I8 <= x.place) & (x.place <= place::I10)) {
+        return !(x.kind == kind::INSERT);
+    }
+    if (place::D4A <= x.place) & (x.place <= place::D6) {
+        return !(x.kind == kind::DELETE);
+    }
+    false
 }
 
 fn errand_misfit(x: Worker) -> bool
     ensures { λ r. ⌜ r ≡ errandMisfit x ⌝ }
 {
-    ((x.place == place::L2)
-        & !((x.errand == errand::DUMMY) | ((x.errand == errand::KEY) & (x.kind == kind::INSERT))))
-        | (((place::F1 <= x.place) & (x.place <= place::L2))
-            & (x.errand == errand::EXTRA)
-            & !(x.kind == kind::DELETE))
+    if (x.errand == errand::EXTRA) & !(x.kind == kind::DELETE) {
+        return (place::F1 <= x.place) & (x.place <= place::L2);
+    }
+    if x.place == place::L2 {
+        return !((x.errand == errand::DUMMY)
+            | ((x.errand == errand::KEY) & (x.kind == kind::INSERT)));
+    }
+    false
 }
 
 fn making_astray(x: Worker) -> bool

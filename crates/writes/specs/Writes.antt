@@ -1,12 +1,25 @@
 -- What each effect leaves in the node words, the bucket words and the header.
 use Prim.Native.Nat.{ℕ}
-use mathlib.Core.Bool.{true, false}
+use mathlib.Core.Bool.{Bool, true, false}
 use mathlib.Core.List.{List}
 use Rattle.words.specs.Words.{SPLIT-KEY, LINK, STANDING, TAKEN, put, store, linkTo}
 use Rattle.header.specs.declared.Header.{Header}
 use Rattle.header.specs.Header.{sized, counted}
 use Rattle.acts.specs.declared.Effect.{Effect}
 use Rattle.acts.specs.declared.Effect.the-variants.{Nothing, Take, Free, Aim, Place, Mark, Unlink, Store, Count, Size}
+
+-- the step reads, and writes nothing
+abbrev pub isNothing : Effect → Bool
+isNothing Nothing = true
+isNothing (Take n split) = false
+isNothing (Free n) = false
+isNothing (Aim n next) = false
+isNothing (Place n next prev) = false
+isNothing (Mark n next) = false
+isNothing (Unlink prev next n busy) = false
+isNothing (Store b n) = false
+isNothing (Count v) = false
+isNothing (Size v) = false
 
 abbrev pub nodesAfter : Effect → List ℕ → List ℕ
 nodesAfter Nothing ns = ns

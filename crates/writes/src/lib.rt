@@ -1,7 +1,7 @@
 // A decision carried out: what a step's write leaves in the lent tables and in the header, and at an ended answer the operation closed.
 ghost use mathlib.Core.Path.{_≡_};
 ghost use Rattle.words.specs.Words.{LINK, put, linkWord, linkTo};
-ghost use Rattle.writes.specs.Writes.{nodesAfter, bucketsAfter, headerAfter};
+ghost use Rattle.writes.specs.Writes.{isNothing, nodesAfter, bucketsAfter, headerAfter};
 ghost use Rattle.writes.specs.Carry.{after, handedBack, tick, going, closedBy, ending, carriedBy};
 use acts::Effect;
 use acts::Move;
@@ -41,6 +41,16 @@ fn aim(nodes: &mut [u32], n: u32, next: u32, marked: bool)
     ensures { λ _. ⌜ now (nodes .exit) ≡ put (now (nodes .entry)) n LINK (linkTo next marked) ⌝ }
 {
     words::put(nodes, n, words::LINK, link_to(next, marked));
+}
+
+// Most steps write nothing.
+fn nothing(effect: Effect) -> bool
+    ensures { λ r. ⌜ r ≡ isNothing effect ⌝ }
+{
+    match effect {
+        Effect::Nothing => true,
+        _ => false,
+    }
 }
 
 // The write of a step, in the tables.
@@ -197,6 +207,9 @@ pub fn carry(
             worker: next,
             effect,
         } => {
+            if nothing(effect) {
+                return going(next, effect, header);
+            }
             write(effect, nodes, buckets);
             going(next, effect, header)
         }

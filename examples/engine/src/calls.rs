@@ -68,6 +68,7 @@ mod raw {
 }
 
 /// A register over the lent words.
+#[inline]
 pub fn prepare(
     header: &mut [u32; HEADER_WORDS],
     records: &mut [u32],
@@ -100,6 +101,7 @@ pub fn prepare(
 }
 
 /// A worker's operation begins; nodes and buckets stay as they are.
+#[inline]
 pub fn start(
     header: &mut [u32; HEADER_WORDS],
     records: &mut [u32],
@@ -127,6 +129,7 @@ pub fn start(
 }
 
 /// One step of a worker.
+#[inline]
 pub fn step(
     header: &mut [u32; HEADER_WORDS],
     records: &mut [u32],

@@ -1,13 +1,18 @@
--- The row is computed as it is written.
+-- The test that was passed says what is left of the row.
 -- Assumes nothing.
-use mathlib.Core.Path.{refl}
-use Rattle.faults.specs.Faults.{kindMisfit}
+use mathlib.Core.Path.{sym}
+use Rattle.faults.proofs.Laws.{kind-inserts, kind-deletes, kind-neither}
 use Rattle.faults.proofs.kind_misfit.Statement.{statement}
 use Rattle.faults.proofs.kind_misfit.Tie as tie
 
 returns : tie.Need-returns
-unfolding kindMisfit
-returns c = refl
+returns c = sym (kind-inserts (c .before .before .before .before .before .args .x) (c .before .if1 .taken))
+
+returns-2 : tie.Need-returns-2
+returns-2 c = sym (kind-deletes (c .before .before .before .before .before .before .before .before .args .x) (c .before .before .before .before .if1 .left) (c .before .if2 .taken))
+
+returns-3 : tie.Need-returns-3
+returns-3 c = sym (kind-neither (c .before .before .before .before .before .before .before .args .x) (c .before .before .before .if1 .left) (c .if2 .left))
 
 pub kind-misfit-spec : {M : Type 1} → statement M
-kind-misfit-spec = tie.close (tie.spec returns)
+kind-misfit-spec = tie.close (tie.spec returns returns-2 returns-3)

@@ -1,8 +1,28 @@
--- Each arm is its decision's own clause.
+-- Each arm is its decision's own clause; an effect that writes nothing leaves both tables as they are.
 -- Assumes nothing.
+use mathlib.Core.Path.{_≡_, refl, sym, ap, _∙_}
+use mathlib.Core.List.{List}
+use mathlib.Core.Bool.{true, false≢true}
+use Prim.Native.Nat.{ℕ}
+use denote.Ref.{now}
 use borrow.Author.Needs.{needs}
+use Rattle.acts.specs.declared.Effect.{Effect}
+use Rattle.acts.specs.declared.Effect.the-variants.{Nothing, Take, Free, Aim, Place, Mark, Unlink, Store, Count, Size}
+use Rattle.writes.specs.Writes.{isNothing, nodesAfter, bucketsAfter}
 use Rattle.writes.proofs.carry.Statement.{statement}
 use Rattle.writes.proofs.carry.Tie as tie
+
+unwritten : (e : Effect) (ns bs : List ℕ) → isNothing e ≡ true → (nodesAfter e ns ≡ ns) × (bucketsAfter e bs ≡ bs)
+unwritten Nothing ns bs t = (refl, refl)
+unwritten (Take n split) ns bs t = absurd (false≢true t)
+unwritten (Free n) ns bs t = absurd (false≢true t)
+unwritten (Aim n next) ns bs t = absurd (false≢true t)
+unwritten (Place n next prev) ns bs t = absurd (false≢true t)
+unwritten (Mark n next) ns bs t = absurd (false≢true t)
+unwritten (Unlink prev next n busy) ns bs t = absurd (false≢true t)
+unwritten (Store b n) ns bs t = absurd (false≢true t)
+unwritten (Count v) ns bs t = absurd (false≢true t)
+unwritten (Size v) ns bs t = absurd (false≢true t)
 
 enum-told : tie.Need-enum-told
 enum-told c = search needs
@@ -13,11 +33,24 @@ handed-back-requires c κs = tt
 enum-known-decision : tie.Need-enum-known-decision
 enum-known-decision c = search needs
 
-write-requires : tie.Need-write-requires
-write-requires c κs = tt
+nothing-requires : tie.Need-nothing-requires
+nothing-requires c κs = tt
 
 going-requires : tie.Need-going-requires
 going-requires c κs = tt
+
+returns : tie.Need-returns
+returns c =
+    let a = c .before .before .before .before .before .before .before .before .args in
+    let e : Effect = c .before .before .before .before .decision .given .0 .1 .0 in
+    let u = unwritten e (now (a .nodes)) (now (a .buckets)) (sym (c .before .before .nothing .ensures) ∙ c .before .if1 .taken) in
+    rw (c .before .before .before .before .decision .given .1) (rw (u .0, u .1, c .going .ensures))
+
+write-requires : tie.Need-write-requires
+write-requires c κs = tt
+
+going-requires-2 : tie.Need-going-requires-2
+going-requires-2 c κs = tt
 
 enum-known-decision-2 : tie.Need-enum-known-decision-2
 enum-known-decision-2 c = search needs
@@ -31,8 +64,8 @@ close-requires c κs = tt
 ending-requires : tie.Need-ending-requires
 ending-requires c κs = tt
 
-returns : tie.Need-returns
-returns c = rw (c .before .enum-told .given .1) (rw (c .handed-back .ensures))
+returns-2 : tie.Need-returns-2
+returns-2 c = rw (c .before .enum-told .given .1) (rw (c .handed-back .ensures))
 
 same-length : tie.Need-same-length
 same-length c = search needs
@@ -40,8 +73,8 @@ same-length c = search needs
 same-length-2 : tie.Need-same-length-2
 same-length-2 c = search needs
 
-returns-2 : tie.Need-returns-2
-returns-2 c = rw (c .before .before .before .before .before .before .before .before .before .decision .given .1) (rw (c .before .before .before .before .before .write .ensures .0, c .before .before .before .before .before .write .ensures .1, c .going .ensures))
+returns-3 : tie.Need-returns-3
+returns-3 c = rw (c .before .before .before .before .before .before .before .before .before .before .before .decision .given .1) (rw (c .before .before .before .before .before .write .ensures .0, c .before .before .before .before .before .write .ensures .1, c .going2 .ensures))
 
 same-length-3 : tie.Need-same-length-3
 same-length-3 c = search needs
@@ -49,8 +82,8 @@ same-length-3 c = search needs
 same-length-4 : tie.Need-same-length-4
 same-length-4 c = search needs
 
-returns-3 : tie.Need-returns-3
-returns-3 c = rw (c .before .before .before .before .before .before .before .before .before .before .before .before .before .decision2 .given .1) (rw (c .before .before .before .close .ensures, c .before .before .before .before .before .before .before .before .before .write2 .ensures .0, c .before .before .before .before .before .before .before .before .before .write2 .ensures .1, c .ending .ensures))
+returns-4 : tie.Need-returns-4
+returns-4 c = rw (c .before .before .before .before .before .before .before .before .before .before .before .before .before .decision2 .given .1) (rw (c .before .before .before .close .ensures, c .before .before .before .before .before .before .before .before .before .write2 .ensures .0, c .before .before .before .before .before .before .before .before .before .write2 .ensures .1, c .ending .ensures))
 
 pub carry-spec : {M : Type 1} → statement M
 carry-spec =
@@ -59,16 +92,19 @@ carry-spec =
     enum-told
     handed-back-requires
     enum-known-decision
-    write-requires
+    nothing-requires
     going-requires
+    returns
+    write-requires
+    going-requires-2
     enum-known-decision-2
     write-requires-2
     close-requires
     ending-requires
-    returns
+    returns-2
     same-length
     same-length-2
-    returns-2
+    returns-3
     same-length-3
     same-length-4
-    returns-3)
+    returns-4)
