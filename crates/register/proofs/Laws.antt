@@ -52,7 +52,7 @@ start-follows t kind key nodes buckets = in-parts _ _ _ _ _ _ _ _ _ _ _ _ _ _
 -- a step's table has no rows of its own between
 pub step-follows : (t : Turn) (nodes buckets : ℕ) → stepVerdict t nodes buckets ≡ followed (openVerdict t Step nodes buckets) (idleVerdict t)
 unfolding stepVerdict openVerdict callVerdict askVerdict idleVerdict pick
-step-follows t nodes buckets = 
+step-follows t nodes buckets =
     in-parts Damaged Short NoWorker NoKind KeyAbove Damaged IsIdle
     (headerDamaged (t .header)) (isShort (t .header) nodes buckets) (leb (t .header .w) (t .number)) false false (workerDamaged (t .header) (t .number) (t .worker)) (eqb (t .worker .place) IDLE)
 

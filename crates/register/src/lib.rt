@@ -1,6 +1,5 @@
 // The register by value: starting an operation, and one step of one worker.
 ghost use mathlib.Core.Path.{_≡_};
-ghost use lib.ListN.{length};
 ghost use Rattle.record.specs.Worker.{begun};
 ghost use Rattle.moves.specs.Moves.{decided};
 ghost use Rattle.writes.specs.Carry.{after};
