@@ -5,7 +5,7 @@ use native.Mathlib.Omega.{arith}
 use mathlib.Core.Path.{_≡_, refl, sym, ap, subst, _∙_}
 use mathlib.Core.Bool.{Bool, true, false, false≢true, _&&_}
 use mathlib.Core.List.{List}
-use lib.Dec.{ltb, leb, eqb}
+use lib.Dec.{ltb, eqb}
 use lib.ListN.{length, set, length-set}
 use lib.Seq.{set-getD, set-set, getD-set-same}
 use borrow.Author.Tests.{le-leb, lt-ltb, ltb-false, ne-eqb}
@@ -37,7 +37,7 @@ use Rattle.writes.specs.Carry.{After, after}
 use Rattle.register.specs.Step.{refusedWith, seenBy, carried}
 use Rattle.prepare.specs.Prepare.{Kept, freshHeader, prepared}
 use Rattle.header.specs.Header.{isShort}
-use Rattle.register.specs.Calls.{startedBy, startVerdict, startOf, steppedBy, stepVerdict, stepOf, askedOf}
+use Rattle.register.specs.Calls.{steppedBy, stepVerdict, stepOf, askedOf}
 use Rattle.crew.specs.declared.Call.{Call}
 use Rattle.crew.specs.declared.Call.the-variants.{Start as Starts, Steps}
 use Rattle.crew.specs.declared.Ready.{Ready}

@@ -6,17 +6,17 @@ use mathlib.Core.Path.{_≡_, refl, ap, sym}
 use mathlib.Core.Bool.{Bool, true, false}
 use mathlib.Core.List.{List}
 use lib.ListN.{length}
+use lib.Dec.{leb, eqb}
 use Rattle.choice.specs.Choice.{pick}
+use Rattle.names.specs.Names.{IDLE}
 use Rattle.names.specs.declared.Answer.{Answer}
+use Rattle.names.specs.declared.Answer.the-variants.{Short, Damaged, NoWorker, KeyAbove, IsIdle, NoKind}
 use Rattle.names.specs.declared.Verdict.{Verdict}
 use Rattle.names.specs.declared.Verdict.the-variants.{Pass, Refused}
 use Rattle.names.proofs.Verdicts.{passes}
-use lib.Dec.{leb, eqb}
-use Rattle.names.specs.Names.{IDLE}
 use Rattle.header.specs.Header.{headerDamaged, isShort}
-use Rattle.faults.specs.Faults.{workerDamaged}
 use Rattle.header.proofs.Rows.{limits-of, limits-small}
-use Rattle.names.specs.declared.Answer.the-variants.{Short, Damaged, NoWorker, KeyAbove, IsIdle, NoKind}
+use Rattle.faults.specs.Faults.{workerDamaged}
 use Rattle.writes.specs.Carry.{after}
 use Rattle.register.specs.declared.Ask.{Ask}
 use Rattle.register.specs.declared.Ask.the-variants.{Start, Step}

@@ -8,7 +8,7 @@ use denote.Triple.Clauses.{AtExit}
 use denote.Ref.{now}
 use borrow.Fn.Kinds.{Dens, resT, endedOf}
 use Rattle.welmuzra.specs.declared.Reply.{Reply}
-use Rattle.welmuzra.specs.Calls.{Own, own, Lent, lent}
+use Rattle.welmuzra.specs.Calls.{own, Lent, lent}
 use Rattle.welmuzra.proofs.welmuzra_prepare.Reads as prepare
 use Rattle.welmuzra.proofs.welmuzra_prepare.Kinds as prepare-kinds
 use Rattle.welmuzra.proofs.welmuzra_start.Reads as start

@@ -1,6 +1,6 @@
 -- Each arm is its decision's own clause; an effect that writes nothing leaves both tables as they are.
 -- Assumes nothing.
-use mathlib.Core.Path.{_≡_, refl, sym, ap, _∙_}
+use mathlib.Core.Path.{_≡_, refl, sym, _∙_}
 use mathlib.Core.List.{List}
 use mathlib.Core.Bool.{true, false≢true}
 use Prim.Native.Nat.{ℕ}
