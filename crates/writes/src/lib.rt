@@ -43,7 +43,7 @@ fn aim(nodes: &mut [u32], n: u32, next: u32, marked: bool)
     words::put(nodes, n, words::LINK, link_to(next, marked));
 }
 
-// Most steps write nothing.
+// The step writes nothing, as most do.
 fn nothing(effect: Effect) -> bool
     ensures { λ r. ⌜ r ≡ isNothing effect ⌝ }
 {
