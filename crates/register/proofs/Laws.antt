@@ -22,7 +22,8 @@ use Rattle.register.specs.declared.Ask.{Ask}
 use Rattle.register.specs.declared.Ask.the-variants.{Start, Step}
 use Rattle.register.specs.declared.Turn.{Turn}
 use Rattle.register.specs.Step.{refusedWith, Small, wordAt, wordFor}
-use Rattle.register.specs.Calls.{callVerdict, askVerdict, followed, openVerdict, busyVerdict, idleVerdict, startVerdict, startOf, stepVerdict, stepOf, askedOf}
+use Rattle.register.specs.Calls.{startVerdict, startOf, stepVerdict, stepOf, askedOf}
+use Rattle.register.specs.Parts.{callVerdict, askVerdict, followed, openVerdict, busyVerdict, idleVerdict}
 
 pub here : (t : Turn) (ns bs : List ℕ) (k : ℕ) → t .worker .place ≡ k → wordAt k t ns bs ≡ wordFor t ns bs
 unfolding wordFor

@@ -22,44 +22,6 @@ use Rattle.register.specs.declared.Ask.the-variants.{Start, Step}
 use Rattle.register.specs.declared.Turn.{Turn}
 use Rattle.register.specs.Step.{refusedWith, seenBy, carried}
 
--- ---- what a start and a step check first: 12, 11, 13
-unfoldable pub callVerdict : Turn → ℕ → ℕ → Verdict
-callVerdict t nodes buckets =
-    firstOf
-    (refuses Damaged (headerDamaged (t .header))
-    ∷ refuses Short (isShort (t .header) nodes buckets)
-    ∷ refuses NoWorker (leb (t .header .w) (t .number))
-    ∷ [])
-    Pass
-
--- ---- what a start is asked for: 17, 14; a step is asked for nothing that could be refused
-unfoldable pub askVerdict : Ask → Verdict
-askVerdict (Start kind key) =
-    firstOf
-    (refuses NoKind (ltb kind INSERT || ltb DELETE kind)
-    ∷ refuses KeyAbove (ltb KEY-LIMIT key)
-    ∷ [])
-    Pass
-askVerdict Step = Pass
-
--- the first of two verdicts that refuses
-abbrev pub followed : Verdict → Verdict → Verdict
-followed (Refused a) v = Refused a
-followed Pass v = v
-
--- all that is checked before the record is asked whether it is idle
-unfoldable pub openVerdict : Turn → Ask → ℕ → ℕ → Verdict
-openVerdict t a nodes buckets =
-    followed (callVerdict t nodes buckets)
-    (followed (askVerdict a) (firstOf (refuses Damaged (workerDamaged (t .header) (t .number) (t .worker)) ∷ []) Pass))
-
--- and then: 15 for a start, 16 for a step
-unfoldable pub busyVerdict : Turn → Verdict
-busyVerdict t = firstOf (refuses IsBusy (not (eqb (t .worker .place) IDLE)) ∷ []) Pass
-
-unfoldable pub idleVerdict : Turn → Verdict
-idleVerdict t = firstOf (refuses IsIdle (eqb (t .worker .place) IDLE) ∷ []) Pass
-
 -- ---- starting: 12, 11, 13, 17, 14, 12, 15
 unfoldable pub startVerdict : Turn → ℕ → ℕ → ℕ → ℕ → Verdict
 startVerdict t kind key nodes buckets =

@@ -4,7 +4,7 @@ use mathlib.Core.Path.{refl}
 use borrow.Author.Needs.{needs}
 use borrow.Author.Tests.{lt-ltb, le-ltb}
 use Rattle.choice.proofs.Auto.{then-is, else-is}
-use Rattle.register.specs.Calls.{askVerdict}
+use Rattle.register.specs.Parts.{askVerdict}
 use Rattle.register.proofs.asked.Statement.{statement}
 use Rattle.register.proofs.asked.Tie as tie
 

@@ -4,7 +4,7 @@ use mathlib.Core.Path.{_∙_}
 use borrow.Author.Needs.{needs}
 use borrow.Author.Tests.{eq-eqb, ne-eqb}
 use Rattle.choice.proofs.Auto.{pick-true, pick-false}
-use Rattle.register.specs.Calls.{idleVerdict}
+use Rattle.register.specs.Parts.{idleVerdict}
 use Rattle.register.proofs.Turn.act.Statement.{statement}
 use Rattle.register.proofs.Turn.act.Tie as tie
 

@@ -4,7 +4,7 @@ use mathlib.Core.Path.{ap, _∙_}
 use mathlib.Core.Bool.{not}
 use borrow.Author.Tests.{eq-eqb, ne-eqb}
 use Rattle.choice.proofs.Auto.{pick-true, pick-false}
-use Rattle.register.specs.Calls.{busyVerdict}
+use Rattle.register.specs.Parts.{busyVerdict}
 use Rattle.register.proofs.Turn.begin.Statement.{statement}
 use Rattle.register.proofs.Turn.begin.Tie as tie
 

@@ -3,7 +3,7 @@
 use mathlib.Core.Path.{refl, sym, _∙_}
 use borrow.Author.Tests.{le-leb, lt-leb}
 use Rattle.choice.proofs.Auto.{then-is, else-is}
-use Rattle.register.specs.Calls.{callVerdict}
+use Rattle.register.specs.Parts.{callVerdict}
 use Rattle.register.proofs.Turn.call_verdict.Statement.{statement}
 use Rattle.register.proofs.Turn.call_verdict.Tie as tie
 

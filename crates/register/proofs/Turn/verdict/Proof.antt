@@ -3,7 +3,7 @@
 use mathlib.Core.Path.{refl, sym, _∙_}
 use borrow.Author.Needs.{needs}
 use Rattle.choice.proofs.Auto.{then-is, else-is}
-use Rattle.register.specs.Calls.{openVerdict}
+use Rattle.register.specs.Parts.{openVerdict}
 use Rattle.register.proofs.Turn.verdict.Statement.{statement}
 use Rattle.register.proofs.Turn.verdict.Tie as tie
 
