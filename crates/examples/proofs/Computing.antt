@@ -12,7 +12,7 @@ use Rattle.record.specs.Worker.{begun, heldKey, heldDummy}
 use Rattle.faults.specs.Faults.{unknownName, bucketBeyond, nodeBeyond, bitDisagrees, idleNotZero, kindMisfit, errandMisfit, makingAstray, sizeMisfit, workerDamaged}
 use Rattle.moves.specs.Moves.{badLink, wantOf, heldFor, notFound, foundKey, found, comes, f1, f2, judged, f3, f4, placed, l2, tb, b2, b4, b8, i1, sz, i8, i9, i10, d4a, d4b, d6, decidedAt, decided}
 use Rattle.writes.specs.Carry.{tick, closedBy}
-use Rattle.register.specs.Step.{wordAt, wordFor, splitFor}
+use Rattle.register.specs.Step.{wordGiven, bucketAt, wordAt, wordFor, splitFor}
 use Rattle.prepare.specs.Prepare.{prepareVerdict, prepared}
 use Rattle.register.specs.Calls.{startVerdict, startOf, stepVerdict, stepOf}
 use Rattle.crew.specs.Crew.{Left, tooFew, stepAt, startAt, filled, tooFewFor, prepareAt}
@@ -24,6 +24,6 @@ unfolding
     store linkWord linkTo isTo bit isIn dropped raised leave sweep freeFrom lowest cleared isKey keysFrom powerUpTo limitBroken sizeBroken
     busyBeyond headerDamaged doubles begun heldKey heldDummy unknownName bucketBeyond nodeBeyond bitDisagrees idleNotZero kindMisfit
     errandMisfit makingAstray sizeMisfit workerDamaged badLink wantOf heldFor notFound foundKey found comes f1 f2 judged f3 f4 placed l2 tb
-    b2 b4 b8 i1 sz i8 i9 i10 d4a d4b d6 decidedAt decided wordAt wordFor splitFor closedBy tick isShort prepareVerdict prepared startVerdict
+    b2 b4 b8 i1 sz i8 i9 i10 d4a d4b d6 decidedAt decided wordGiven bucketAt wordAt wordFor splitFor closedBy tick isShort prepareVerdict prepared startVerdict
     startOf stepVerdict stepOf tooFew stepAt startAt filled tooFewFor prepareAt
 computed = left

@@ -25,7 +25,7 @@ use Rattle.register.specs.declared.Turn.{Turn}
 use Rattle.names.specs.declared.Verdict.{Verdict}
 use Rattle.names.specs.declared.Verdict.the-variants.{Pass, Refused}
 use Rattle.writes.specs.Carry.{After, after}
-use Rattle.register.specs.Step.{refusedWith, wordAt, wordFor, seenBy, carried}
+use Rattle.register.specs.Step.{refusedWith, wordGiven, wordAt, wordFor, seenBy, carried}
 use Rattle.register.specs.Calls.{steppedBy, stepVerdict, stepOf}
 use Rattle.promises.specs.Access.{placeOf}
 
@@ -108,11 +108,11 @@ lowest-le ns from to = by-zero (ℕ-discrete (lowest ns from to) 0)
     by-zero (no ne) = lowest-free ns from to (lowest ns from to) refl ne .1
 
 pub found-key : (t : Turn) (ns bs : List ℕ) → placeOf t ≡ I1 → wordFor t ns bs ≤ nodesOf (t .header)
-unfolding wordFor wordAt pick
+unfolding wordFor wordAt wordGiven pick
 found-key t ns bs p = rw p (lowest-le ns _ _)
 
 pub found-dummy : (t : Turn) (ns bs : List ℕ) → placeOf t ≡ B4 → wordFor t ns bs ≤ nodesOf (t .header)
-unfolding wordFor wordAt pick
+unfolding wordFor wordAt wordGiven pick
 found-dummy t ns bs p = rw p (omega (arith, lowest-le ns 1 (dummiesOf (t .header))))
 
 -- a step is refused by its verdict, or its record is in range and its decision is carried out

@@ -17,9 +17,9 @@ use Rattle.moves.specs.Moves.{decided}
 use Rattle.register.specs.declared.Turn.{Turn}
 use Rattle.names.specs.declared.Verdict.{Verdict}
 use Rattle.names.specs.declared.Verdict.the-variants.{Pass, Refused}
-use Rattle.writes.specs.Writes.{nodesAfter, bucketsAfter}
+use Rattle.writes.specs.Writes.{nodesAfter}
 use Rattle.writes.specs.Carry.{After}
-use Rattle.register.specs.Step.{seenBy, closed, carried}
+use Rattle.register.specs.Step.{seenBy, closed, bucketsAfter, carried}
 use Rattle.register.specs.Calls.{steppedBy, stepVerdict, stepOf}
 use Rattle.promises.specs.Access.{Word, ofNode, ofBucket, splitKey, link, standing, value, Lent, Long, Alike, Agree, Reads, SameStandings, Ends}
 use Rattle.promises.specs.OneAccess.{valueIn, SameStep, WritesSame}

@@ -20,7 +20,7 @@ use Rattle.moves.specs.Moves.{decided}
 use Rattle.register.specs.declared.Turn.{Turn}
 use Rattle.names.specs.declared.Verdict.{Verdict}
 use Rattle.names.specs.declared.Verdict.the-variants.{Pass, Refused}
-use Rattle.register.specs.Step.{wordAt, wordFor, splitFor, seenBy, carried}
+use Rattle.register.specs.Step.{wordGiven, bucketAt, wordAt, wordFor, splitFor, seenBy, carried}
 use Rattle.register.specs.Calls.{steppedBy, stepVerdict, stepOf}
 use Rattle.promises.specs.Access as A
 use Rattle.promises.specs.Access.{Reads, Agree, placeOf, ofNode, splitKey, standing}
@@ -34,13 +34,20 @@ at-place p k a b c d here there =
     (λ n. there ∙ rw (pick-false (eqb p k) c d (ne-eqb p k n)))
 
 module _ (t : Turn) (ns bs ks cs : List ℕ) (agree : Agree (Reads t) (t .header) ns bs ks cs) where
+  -- the value of the bucket that is read
+  value-same : bucketAt (placeOf t) t bs ≡ bucketAt (placeOf t) t cs
+  unfolding bucketAt
+  value-same =
+      at-place (placeOf t) TB _ _ _ _ (λ p. agree .same _ (A.tb p))
+      (at-place (placeOf t) B2 _ 0 _ 0 (λ p. agree .same _ (A.b2 p)) refl)
+
   -- the word that is read
   word-same : wordFor t ns bs ≡ wordFor t ks cs
-  unfolding wordFor wordAt
+  unfolding wordFor wordAt wordGiven
   word-same =
       at-place (placeOf t) I1 _ _ _ _ (λ p. lowest-reads ns ks _ _ (λ n a b. agree .same (ofNode n standing) (A.i1 p n (omega arith) b)))
-      (at-place (placeOf t) TB _ _ _ _ (λ p. agree .same _ (A.tb p))
-      (at-place (placeOf t) B2 _ _ _ _ (λ p. agree .same _ (A.b2 p))
+      (at-place (placeOf t) TB _ _ _ _ (λ _. value-same)
+      (at-place (placeOf t) B2 _ _ _ _ (λ _. value-same)
       (at-place (placeOf t) B4 _ _ _ _ (λ p. lowest-reads ns ks _ _ (λ n a b. agree .same (ofNode n standing) (A.b4 p n a b)))
       (at-place (placeOf t) F1 _ _ _ _ (λ p. agree .same _ (A.f1 p))
       (at-place (placeOf t) F2 _ _ _ _ (λ p. agree .same _ (A.f2 p))

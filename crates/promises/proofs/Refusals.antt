@@ -35,7 +35,7 @@ use Rattle.moves.specs.Moves.{i1, sz, tb, b2, b4, f1, f2, f3, f4, l2, b8, i8, i
 use Rattle.prepare.specs.declared.Limits.{Limits}
 use Rattle.register.specs.declared.Turn.{Turn}
 use Rattle.names.specs.declared.Verdict.{Verdict}
-use Rattle.register.specs.Step.{wordAt, wordFor, splitFor, seenBy, carried}
+use Rattle.register.specs.Step.{wordGiven, bucketAt, wordAt, wordFor, splitFor, seenBy, carried}
 use Rattle.header.specs.Header.{isShort}
 use Rattle.prepare.specs.Prepare.{freshHeader, preparedBy, prepareVerdict, prepared}
 use Rattle.register.specs.Calls.{startedBy, startVerdict, startOf, steppedBy, stepVerdict, stepOf}
@@ -199,7 +199,7 @@ module _ (t : Turn) (ns bs : List ℕ) (known : Known (t .worker)) where
 
   -- I1: 18 where no key node is free
   takes-key : Told t ns bs I1 (i1 (seen I1))
-  unfolding i1 wordAt pick
+  unfolding i1 wordAt wordGiven pick
   takes-key =
       let free = none-free ns (dummiesOf (t .header) + 1) (nodesOf (t .header)) (omega arith) in
       let none : Tells _ (NoKeyAt t ns I1) = tells-as (λ f. (refl, f)) (λ f. f .1) free in
@@ -235,14 +235,14 @@ module _ (t : Turn) (ns bs : List ℕ) (known : Known (t .worker)) where
       }
 
   takes-dummy : Told t ns bs B4 (b4 (seen B4))
-  unfolding b4 wordAt pick
+  unfolding b4 wordAt wordGiven pick
   takes-dummy =
       no-dummy _ _ _ _ (none-free ns 1 (dummiesOf (t .header)) (omega arith))
       (tells-and (tells-eq (t .worker .kind) INSERT) (tells-eq (t .worker .held) 0))
 
   -- the place decides the answer: one row a place
   told-at : (p : ℕ) → Told t ns bs p (decidedAt p (seen p))
-  unfolding decidedAt wordAt pick
+  unfolding decidedAt wordAt wordGiven bucketAt pick
   told-at p =
       by-place p I1 i1 takes-key
       (λ n1. by-place p SZ sz (ordinary SZ refl refl (unclaimed (sz-fine _ _ _ _)))

@@ -9,7 +9,8 @@ use Rattle.acts.specs.declared.Effect.{Effect}
 use Rattle.acts.specs.declared.Effect.the-variants.{Nothing, Take, Free, Aim, Place, Mark, Unlink, Store, Count, Size}
 use Rattle.acts.specs.declared.Move.{Move}
 use Rattle.acts.specs.declared.Move.the-variants.{Damaged, Going, Ended}
-use Rattle.writes.specs.Writes.{nodesAfter, bucketsAfter}
+use Rattle.writes.specs.Writes.{nodesAfter}
+use Rattle.register.specs.Step.{bucketsAfter}
 use Rattle.promises.specs.Access.{splitKey, link, standing, spot, Word, ofNode, ofBucket}
 
 -- what a decision writes

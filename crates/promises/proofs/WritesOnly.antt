@@ -15,8 +15,8 @@ use Rattle.acts.specs.declared.Move.{Move}
 use Rattle.acts.specs.declared.Move.the-variants.{Damaged, Going, Ended}
 use Rattle.moves.specs.Moves.{decided}
 use Rattle.register.specs.declared.Turn.{Turn}
-use Rattle.writes.specs.Writes.{nodesAfter, bucketsAfter}
-use Rattle.register.specs.Step.{wordFor, splitFor, seenBy, carried}
+use Rattle.writes.specs.Writes.{nodesAfter}
+use Rattle.register.specs.Step.{wordFor, splitFor, seenBy, bucketsAfter, carried}
 use Rattle.register.specs.Calls.{stepOf}
 use Rattle.promises.specs.Access as A
 use Rattle.promises.specs.Access.{Word, ofNode, ofBucket, spot, value, Lent, Writes, Closes, closes}

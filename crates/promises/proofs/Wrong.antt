@@ -17,7 +17,7 @@ use Rattle.faults.specs.Faults.{unknownName, bucketBeyond, nodeBeyond, bitDisag
 use Rattle.moves.specs.Moves.{badLink, heldFor, notFound, comes, f1, placed, l2, tb, b4, i1, sz, i8, i9, d4b, d6, decidedAt, decided}
 use Rattle.writes.specs.declared.Outcome.{Outcome}
 use Rattle.writes.specs.Carry.{After, tick, closedBy}
-use Rattle.register.specs.Step.{wordAt, wordFor, splitFor}
+use Rattle.register.specs.Step.{wordGiven, bucketAt, wordAt, wordFor, splitFor}
 use Rattle.header.specs.Header.{isShort}
 use Rattle.register.specs.Calls.{startVerdict, startOf, stepVerdict, stepOf}
 use Rattle.promises.specs.Wrong
@@ -28,7 +28,7 @@ unfolding
     rev reverse regular dummy par parentOf climb ancestors among onPath powerBelow powerOfTwo word put bucket store linkWord
     linkTo isTo bit isIn dropped leave sweep freeFrom lowest powerUpTo limitBroken sizeBroken busyBeyond headerDamaged doubles
     heldKey heldDummy unknownName bucketBeyond nodeBeyond bitDisagrees idleNotZero kindMisfit errandMisfit makingAstray sizeMisfit
-    workerDamaged badLink heldFor notFound comes f1 placed l2 tb b4 i1 sz i8 i9 d4b d6 decidedAt decided wordAt wordFor splitFor
+    workerDamaged badLink heldFor notFound comes f1 placed l2 tb b4 i1 sz i8 i9 d4b d6 decidedAt decided wordGiven bucketAt wordAt wordFor splitFor
     closedBy tick isShort stepVerdict stepOf pick
 ours = stepOf
 

@@ -2,12 +2,15 @@
 -- Assumes nothing.
 use Prim.Native.Nat.{ℕ}
 use native.Mathlib.Omega.{arith}
-use mathlib.Core.Path.{_≡_, refl, ap, sym}
+use mathlib.Core.Path.{_≡_, refl, ap, sym, _∙_}
+use mathlib.Core.Logic.{_≢_}
 use mathlib.Core.Bool.{Bool, true, false}
 use mathlib.Core.List.{List}
 use lib.ListN.{length}
 use lib.Dec.{leb, eqb}
+use borrow.Author.Tests.{ne-eqb}
 use Rattle.choice.specs.Choice.{pick}
+use Rattle.choice.proofs.Auto.{pick-false}
 use Rattle.names.specs.Names.{IDLE}
 use Rattle.names.specs.declared.Answer.{Answer}
 use Rattle.names.specs.declared.Answer.the-variants.{Short, Damaged, NoWorker, KeyAbove, IsIdle, NoKind}
@@ -17,17 +20,34 @@ use Rattle.names.proofs.Verdicts.{passes}
 use Rattle.header.specs.Header.{headerDamaged, isShort}
 use Rattle.header.proofs.Rows.{limits-of, limits-small}
 use Rattle.faults.specs.Faults.{workerDamaged}
-use Rattle.writes.specs.Carry.{after}
+use Rattle.acts.specs.declared.Move.{Move}
+use Rattle.moves.specs.Moves.{decided}
+use Rattle.writes.specs.declared.Outcome.{Outcome}
+use Rattle.writes.specs.declared.Stores.{Stores}
+use Rattle.writes.specs.Carry.{after, Carried, carriedOut, storeOf}
 use Rattle.register.specs.declared.Ask.{Ask}
 use Rattle.register.specs.declared.Ask.the-variants.{Start, Step}
 use Rattle.register.specs.declared.Turn.{Turn}
-use Rattle.register.specs.Step.{refusedWith, Small, wordAt, wordFor}
-use Rattle.register.specs.Calls.{startVerdict, startOf, stepVerdict, stepOf, askedOf}
+use Rattle.register.specs.Step.{refusedWith, Small, wordGiven, wordWith, seenWith, carriedOn, bucketAt, bucketFor, wordAt, wordFor, storedIn}
+use Rattle.register.specs.Calls.{startVerdict, startOf, stepVerdict, steppedBy, stepOf, askedOf}
 use Rattle.register.specs.Parts.{callVerdict, askVerdict, followed, openVerdict, busyVerdict, idleVerdict}
 
-pub here : (t : Turn) (ns bs : List ℕ) (k : ℕ) → t .worker .place ≡ k → wordAt k t ns bs ≡ wordFor t ns bs
-unfolding wordFor
-here t ns bs k e = ap (λ (p : ℕ). wordAt p t ns bs) (sym e)
+pub here : (t : Turn) (ns : List ℕ) (v k : ℕ) → t .worker .place ≡ k → wordGiven k t ns v ≡ wordWith t ns v
+unfolding wordWith
+here t ns v k e = ap (λ (p : ℕ). wordGiven p t ns v) (sym e)
+
+pub bucket-here : (t : Turn) (bs : List ℕ) (k : ℕ) → t .worker .place ≡ k → bucketAt k t bs ≡ bucketFor t bs
+unfolding bucketFor
+bucket-here t bs k e = ap (λ (p : ℕ). bucketAt p t bs) (sym e)
+
+-- ---- what is read, decided, carried out and stored is the step
+pub acted : (t : Turn) (ns bs : List ℕ) (v : ℕ) (d : Move) (o : Outcome) (ns′ bs′ : List ℕ) (st : Stores)
+    → v ≡ bucketFor t bs → d ≡ decided (seenWith t ns v) → carriedOut o ns′ ≡ carriedOn t d ns → st ≡ storeOf d → bs′ ≡ storedIn st bs → t .worker .place ≢ IDLE
+    → after o ns′ bs′ ≡ steppedBy t ns bs (idleVerdict t)
+unfolding idleVerdict wordFor wordAt wordWith bucketFor
+acted t ns bs v d o ns′ bs′ st ev ed ec es eb ne =
+    ap (λ (k : Carried). after (k .out) (k .nodes) bs′) ec
+    ∙ rw (eb, es, ed, ev, pick-false _ _ _ (ne-eqb (t .worker .place) IDLE ne)) refl
 
 -- ---- a table is its first rows, and where they pass the rows that follow
 module _ (a b c d e f g : Answer) where

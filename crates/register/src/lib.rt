@@ -5,7 +5,7 @@ ghost use Rattle.moves.specs.Moves.{decided};
 ghost use Rattle.writes.specs.Carry.{after};
 ghost use Rattle.register.specs.Calls.{startedBy, steppedBy, askedOf};
 ghost use Rattle.register.specs.Parts.{callVerdict, askVerdict, openVerdict, busyVerdict, idleVerdict};
-ghost use Rattle.register.specs.Step.{refusedWith, Small, wordFor, splitFor, seenBy};
+ghost use Rattle.register.specs.Step.{refusedWith, Small, wordWith, splitFor, seenWith, bucketFor, storedIn};
 use acts::Move;
 use header::Header;
 use moves::Seen;
@@ -15,6 +15,7 @@ use names::kind;
 use names::place;
 use record::Worker;
 use writes::Outcome;
+use writes::Stores;
 
 // What a turn is asked for.
 pub enum Ask {
@@ -56,6 +57,18 @@ fn asked(ask: Ask) -> Verdict
             Verdict::Pass
         }
         Ask::Step => Verdict::Pass,
+    }
+}
+
+// What is to be stored in the buckets is stored.
+fn keep(stores: Stores, buckets: &mut [u32])
+    ensures { λ _. ⌜ now (buckets .exit) ≡ storedIn stores (now (buckets .entry)) ⌝ }
+{
+    match stores {
+        Stores::None => {}
+        Stores::Into { bucket, node } => {
+            words::store(buckets, bucket, node);
+        }
     }
 }
 
@@ -126,17 +139,29 @@ impl Turn {
         }
     }
 
-    // The one shared word that the step reads at its place, or the node that it found free.
-    fn word_for(self, nodes: &[u32], buckets: &[u32]) -> u32
+    // The value of the bucket that the step asks for at its place: TB and B2 alone ask for one.
+    fn bucket_for(self, buckets: &[u32]) -> u32
+        ensures { λ r. ⌜ r ≡ bucketFor self (now (buckets .entry)) ⌝ }
+    {
+        let place = self.worker.place;
+        match place {
+            place::TB => words::bucket(buckets, self.worker.wanted),
+            place::B2 => words::bucket(buckets, tree::parent(self.worker.making)),
+            _ => 0,
+        }
+    }
+
+    // The one shared word that the step reads at its place, where value is that of the bucket that it asks for, or the node that it found free.
+    fn word_for(self, nodes: &[u32], value: u32) -> u32
         requires { ⌜ Small (self .header) ⌝ }
-        ensures { λ r. ⌜ r ≡ wordFor self (now (nodes .entry)) (now (buckets .entry)) ⌝ }
+        ensures { λ r. ⌜ r ≡ wordWith self (now (nodes .entry)) value ⌝ }
     {
         let dummies = self.header.m + self.header.w;
         let place = self.worker.place;
         match place {
             place::I1 => scans::lowest(nodes, dummies + 1, dummies + self.header.k),
-            place::TB => words::bucket(buckets, self.worker.wanted),
-            place::B2 => words::bucket(buckets, tree::parent(self.worker.making)),
+            place::TB => value,
+            place::B2 => value,
             place::B4 => scans::lowest(nodes, 1, dummies),
             place::F1 => words::word(nodes, self.worker.start, words::LINK),
             place::F2 => words::word(nodes, self.worker.cur, words::LINK),
@@ -160,11 +185,11 @@ impl Turn {
     }
 
     // What the step sees.
-    fn look(self, nodes: &[u32], buckets: &[u32]) -> Seen
+    fn look(self, nodes: &[u32], value: u32) -> Seen
         requires { ⌜ Small (self .header) ⌝ }
-        ensures { λ r. ⌜ r ≡ seenBy self (now (nodes .entry)) (now (buckets .entry)) ⌝ }
+        ensures { λ r. ⌜ r ≡ seenWith self (now (nodes .entry)) value ⌝ }
     {
-        let word = self.word_for(nodes, buckets);
+        let word = self.word_for(nodes, value);
         let split = self.split_for(nodes);
         let header = self.header;
         let worker = self.worker;
@@ -177,11 +202,11 @@ impl Turn {
     }
 
     // What the step decides: the shared word is read, and the place's own lines are followed.
-    fn decision(self, nodes: &[u32], buckets: &[u32]) -> Move
+    fn decision(self, nodes: &[u32], value: u32) -> Move
         requires { ⌜ Small (self .header) ⌝ }
-        ensures { λ r. ⌜ r ≡ decided (seenBy self (now (nodes .entry)) (now (buckets .entry))) ⌝ }
+        ensures { λ r. ⌜ r ≡ decided (seenWith self (now (nodes .entry)) value) ⌝ }
     {
-        self.look(nodes, buckets).decide()
+        self.look(nodes, value).decide()
     }
 
     // 16, or one shared access with the private work that follows: the decision is made, and carried out.
@@ -192,10 +217,13 @@ impl Turn {
         if self.worker.place == place::IDLE {
             return self.refused(Answer::IsIdle);
         }
-        let decision = self.decision(&nodes[..], &buckets[..]);
+        let value = self.bucket_for(&buckets[..]);
+        let decision = self.decision(&nodes[..], value);
         let h = self.header;
         let x = self.worker;
-        writes::carry(h.m + h.w + h.k, self.number, h, x, decision, nodes, buckets)
+        let outcome = writes::carry(h.m + h.w + h.k, self.number, h, x, decision, nodes);
+        keep(writes::store_of(decision), buckets);
+        outcome
     }
 
     // One call of a worker: refused, or what it is asked for.

@@ -36,7 +36,7 @@ from : {a b n : ℕ} {A : Type 0} → Dec (a ≡ 0) → (a ≢ 0 → (a ≡ b) �
 from (yes e) f = inl e
 from (no ne) f = inr (inl (f ne .0))
 
-module _ {h : Header} {ws : List Worker} {Ps : Pasts} {w k d : ℕ} {c m bs : List ℕ} (core : Core h ws Ps w k d c m bs) where
+module _ {h : Header} {ws : List Worker} {Ps : Pasts} {w k d : ℕ} {c m : List ℕ} {β : ℕ → ℕ} (core : Core h ws Ps w k d c m β) where
   abbrev D : ℕ
   D = dummiesOf h
 
@@ -121,7 +121,7 @@ module _ {h : Header} {ws : List Worker} {Ps : Pasts} {w k d : ℕ} {c m bs : Li
     take-exact : (i : ℕ) → In i c → i ≤ D → OfBucket (h .m) (key m₂ i)
     take-exact i j b = rw (ek i (new i j)) (core .exact i j b)
 
-    pub take-key : k ≡ 0 → D < n → Core h ws Ps w n d c m₂ bs
+    pub take-key : k ≡ 0 → D < n → Core h ws Ps w n d c m₂ β
     take-key z low = shift core {g = 0} (record {
       glob = g′;
       later = λ v ne t. take-later v;
@@ -139,7 +139,7 @@ module _ {h : Header} {ws : List Worker} {Ps : Pasts} {w k d : ℕ} {c m bs : Li
       roots = λ i j b. (j, ek i (new i j));
     })
 
-    pub take-dummy : d ≡ 0 → n ≤ D → Core h ws Ps w k n c m₂ bs
+    pub take-dummy : d ≡ 0 → n ≤ D → Core h ws Ps w k n c m₂ β
     take-dummy z high = shift core {g = 0} (record {
       glob = g′;
       later = λ v ne t. take-later v;
@@ -195,7 +195,7 @@ module _ {h : Header} {ws : List Worker} {Ps : Pasts} {w k d : ℕ} {c m bs : Li
     fkeyed i f lo hi (no ne) = core .keyed i f (rw (fs i ne) at lo) (rw (fs i ne) at hi)
 
     freeing : (k′ d′ : ℕ) → (n ≡ k) ⊎ (n ≡ d) → (k′ ≢ 0 → (k′ ≡ k) × (k′ ≢ n)) → (d′ ≢ 0 → (d′ ≡ d) × (d′ ≢ n)) → Dec (k′ ≡ 0) → Dec (d′ ≡ 0)
-        → ((i : ℕ) → i ≢ n → (k ≡ i) ⊎ (d ≡ i) → (k′ ≡ i) ⊎ (d′ ≡ i)) → Core h ws Ps w k′ d′ c f₁ bs
+        → ((i : ℕ) → i ≢ n → (k ≡ i) ⊎ (d ≡ i) → (k′ ≡ i) ⊎ (d′ ≡ i)) → Core h ws Ps w k′ d′ c f₁ β
     freeing k′ d′ touch ke de k0 d0 own = shift core {g = n} (record {
       glob = fg;
       later = λ v ne t. free-later v;
@@ -214,18 +214,18 @@ module _ {h : Header} {ws : List Worker} {Ps : Pasts} {w k d : ℕ} {c m bs : Li
     })
 
   -- the key node, and the dummy: 0 is no node
-  pub free-key : Core h ws Ps w 0 d c (put m k STANDING 0) bs
+  pub free-key : Core h ws Ps w 0 d c (put m k STANDING 0) β
   free-key = go (ℕ-discrete k 0)
     where
-      go : Dec (k ≡ 0) → Core h ws Ps w 0 d c (put m k STANDING 0) bs
+      go : Dec (k ≡ 0) → Core h ws Ps w 0 d c (put m k STANDING 0) β
       go (yes e) = rw (e, put-nothing m STANDING 0) (rw e at core)
       go (no z) = freeing k D N (core .key-held z) (omega arith) 0 d (inl refl) (λ y. absurd (y refl)) (λ y. (refl, two z y)) (yes refl) (ℕ-discrete d 0)
           (λ i ne o. ⊎-elim (λ e. absurd (ne (sym e))) inr o)
 
-  pub free-dummy : Core h ws Ps w k 0 c (put m d STANDING 0) bs
+  pub free-dummy : Core h ws Ps w k 0 c (put m d STANDING 0) β
   free-dummy = go (ℕ-discrete d 0)
     where
-      go : Dec (d ≡ 0) → Core h ws Ps w k 0 c (put m d STANDING 0) bs
+      go : Dec (d ≡ 0) → Core h ws Ps w k 0 c (put m d STANDING 0) β
       go (yes e) = rw (e, put-nothing m STANDING 0) (rw e at core)
       go (no z) = freeing d 0 D (core .dum-held z) (omega arith) k 0 (inr refl) (λ y. (refl, λ e. two y z (sym e))) (λ y. absurd (y refl)) (ℕ-discrete k 0) (yes refl)
           (λ i ne o. ⊎-elim inl (λ e. absurd (ne (sym e))) o)
@@ -262,7 +262,7 @@ module _ {h : Header} {ws : List Worker} {Ps : Pasts} {w k d : ℕ} {c m bs : Li
     pub aim-same : (j : ℕ) → Same m a₁ j
     aim-same = unchanged D N c m c a₁ g₀ ag (λ i j. ak i) (λ i j l. (j, rw (al i (a-off i j)) l)) (λ i j l. (j, rw (al i (a-off i j)) at l))
 
-    pub aim : (n ≡ k) ⊎ (n ≡ d) → Core h ws Ps w k d c a₁ bs
+    pub aim : (n ≡ k) ⊎ (n ≡ d) → Core h ws Ps w k d c a₁ β
     aim touch = shift core {g = n} (record {
       glob = ag;
       later = λ v ne t. aim-later v;
@@ -330,7 +330,7 @@ module _ {h : Header} {ws : List Worker} {Ps : Pasts} {w k d : ℕ} {c m bs : Li
       place-exact j o b (no ne) = rw (pk j) (core .exact j (put-only i n o ne) b)
 
       placing : (k′ d′ : ℕ) → (n ≡ k) ⊎ (n ≡ d) → (k′ ≢ 0 → (k′ ≡ k) × (k′ ≢ n)) → (d′ ≢ 0 → (d′ ≡ d) × (d′ ≢ n)) → Dec (k′ ≡ 0) → Dec (d′ ≡ 0)
-          → ((j : ℕ) → (k ≡ j) ⊎ (d ≡ j) → (n ≡ j) ⊎ ((k′ ≡ j) ⊎ (d′ ≡ j))) → Core h ws Ps w k′ d′ (putAfter i n) p₁ bs
+          → ((j : ℕ) → (k ≡ j) ⊎ (d ≡ j) → (n ≡ j) ⊎ ((k′ ≡ j) ⊎ (d′ ≡ j))) → Core h ws Ps w k′ d′ (putAfter i n) p₁ β
       placing k′ d′ touch ke de k0 d0 own = shift core {g = n} (record {
         glob = place-glob;
         later = λ v ne t. place-later v;
@@ -348,11 +348,11 @@ module _ {h : Header} {ws : List Worker} {Ps : Pasts} {w k d : ℕ} {c m bs : Li
         roots = λ j o b. (put-old i n o, pk j);
       })
 
-      pub place-key : n ≡ k → n ≢ 0 → Core h ws Ps w 0 d (putAfter i n) p₁ bs
+      pub place-key : n ≡ k → n ≢ 0 → Core h ws Ps w 0 d (putAfter i n) p₁ β
       place-key e z = placing 0 d (inl e) (λ y. absurd (y refl)) (λ y. (refl, λ q. two (λ o. z (e ∙ o)) y (q ∙ e))) (yes refl) (ℕ-discrete d 0)
           (λ j o. ⊎-elim (λ q. inl (e ∙ q)) (λ q. inr (inr q)) o)
 
-      pub place-dummy : n ≡ d → n ≢ 0 → Core h ws Ps w k 0 (putAfter i n) p₁ bs
+      pub place-dummy : n ≡ d → n ≢ 0 → Core h ws Ps w k 0 (putAfter i n) p₁ β
       place-dummy e z = placing k 0 (inr e) (λ y. (refl, λ q. two y (λ o. z (e ∙ o)) (sym e ∙ sym q))) (λ y. absurd (y refl)) (ℕ-discrete k 0) (yes refl)
           (λ j o. ⊎-elim (λ q. inr (inl q)) (λ q. inl (e ∙ q)) o)
 
@@ -387,7 +387,7 @@ module _ {h : Header} {ws : List Worker} {Ps : Pasts} {w k d : ℕ} {c m bs : Li
     pub mark-removes : (x : ℕ) → key m cur ≡ regular x → x ≤ KEY-LIMIT → Removed m k₁ x
     mark-removes x e b = marked-removes D N c m k₁ cur nx x g₀ i kg kk kl mark-link was e b
 
-    pub marks : Core h ws Ps w k d c k₁ bs
+    pub marks : Core h ws Ps w k d c k₁ β
     marks = shift core {g = 0} (record {
       glob = kg;
       later = λ v ne t. mark-later v;
@@ -469,7 +469,7 @@ module _ {h : Header} {ws : List Worker} {Ps : Pasts} {w k d : ℕ} {c m bs : Li
         from j o l (yes q) = (cut-only i o, rw (q, was) (omega arith))
         from j o l (no ne) = (cut-only i o, rw (ul j ne) at l)
 
-    pub unlinks : Core h ws Ps w k d (cutAfter i) u₁ bs
+    pub unlinks : Core h ws Ps w k d (cutAfter i) u₁ β
     unlinks = shift core {g = 0} (record {
       glob = ug;
       later = λ v ne t. unlink-later v t;

@@ -17,8 +17,9 @@ use Rattle.header.specs.Header.{nodesOf, dummiesOf}
 use Rattle.record.specs.declared.Worker.{Worker}
 use Rattle.register.specs.Chain.{key, Registered}
 use Rattle.register.specs.Events.{Event, nothing, added, removed, Says, yes-insert, yes-delete, yes-find, no-insert, no-find, no-delete}
-use Rattle.story.specs.Run.{State, workerOf, Call, start, step, left, Run, state, answerAt, eventAt}
-use Rattle.story.specs.Story.{AnswersAreFromThePaper, Operation, Own, Ends, OfAnOperation, TrueAtAMoment, OwnEvent, OwnEffect}
+use Rattle.story.specs.Run.{Call, start, step}
+use Rattle.story.specs.Story.{AnswersAreFromThePaper, Ends}
+use Rattle.story.specs.Trace.{Shared, workerOf, Trace, state, answerAt, eventAt, Operation, Own, OfAnOperation, TrueAtAMoment, OwnEvent, OwnEffect}
 use Rattle.story.proofs.Spans.{startsOf, began, owns, effects}
 use Rattle.story.proofs.Chain.{on-in}
 use Rattle.story.proofs.Facts.{Fact}
@@ -29,7 +30,7 @@ use Rattle.story.proofs.Theorem.{Saw, Past, good, made-at, only-going, 
 use Rattle.story.proofs.Moments.{still, owns-mine, says-added, says-removed, says-some, says-effect, EventIn, Op, ops}
 
 -- ---- the step that ends an operation
-record End (r : Run) (e w : ℕ) : Type 0 where
+record End (r : Trace) (e w : ℕ) : Type 0 where
   real : w < state r e .header .w
   busy : workerOf (state r e) w .place ≢ IDLE
   none : eventAt r e ≡ nothing
@@ -41,10 +42,10 @@ last a (inr (inl e)) = rw e (omega arith, inl (omega arith))
 last a (inr (inr (inl e))) = rw e (omega arith, inr (omega arith))
 last a (inr (inr (inr e))) = rw e (omega arith, inr (omega arith))
 
-ending : (r : Run) (e w : ℕ) → r .call e ≡ step w → Ends (answerAt r e) → End r e w
+ending : (r : Trace) (e w : ℕ) → r .call e ≡ step w → Ends (answerAt r e) → End r e w
 ending r e w ec d = by (made-at r e (good r e) .tale) (last (answerAt r e) d)
   where
-    by : Tale (state r e) (Past r e) (r .call e) (left (state r e) (r .call e)) (eventAt r e)
+    by : Tale (state r e) (Past r e) (r .call e) (answerAt r e) (state r (suc e)) (eventAt r e)
         → (1 ≤ numberOf (answerAt r e)) × ((numberOf (answerAt r e) ≤ 2) ⊎ (18 ≤ numberOf (answerAt r e))) → End r e w
     by (refused ew en lo hi hc) n = absurd (⊎-elim (λ q. omega arith) (λ q. omega arith) (n .1))
     by (begins v kind k q l ew en ea hc xi) n = let z : _≡_ {A = ℕ} 0 1 = cc in absurd (omega arith)
@@ -54,8 +55,8 @@ ending r e w ec d = by (made-at r e (good r e) .tale) (last (answerAt r e) d)
         same : v ≡ w
         same = cc
 
-module _ (r : Run) (e w : ℕ) (d : End r e w) where
-  abbrev s : State
+module _ (r : Trace) (e w : ℕ) (d : End r e w) where
+  abbrev s : Shared
   s = state r e
 
   abbrev x : Worker
@@ -82,7 +83,7 @@ module _ (r : Run) (e w : ℕ) (d : End r e w) where
   none-of f = ⊎-elim (λ p. absurd (true≢false (sym (p .0) ∙ f))) (λ p. p .1) (op .flag)
 
 -- where an operation had no event, none of its calls has one
-quiet-before : (r : Run) (w i : ℕ) → effects r w i ≡ 0 → (j : ℕ) → began r w i < j → j < i → r .call j ≡ step w → eventAt r j ≡ nothing
+quiet-before : (r : Trace) (w i : ℕ) → effects r w i ≡ 0 → (j : ℕ) → began r w i < j → j < i → r .call j ≡ step w → eventAt r j ≡ nothing
 quiet-before r w zero z j b u c = absurd (omega arith)
 quiet-before r w (suc i) z j b u c = by (startsOf w (r .call i) (answerAt r i)) refl (ℕ-discrete j i) (quiet-before r w i)
   where
@@ -99,7 +100,7 @@ quiet-before r w (suc i) z j b u c = by (startsOf w (r .call i) (answerAt r i)) 
         ih (omega (arith, k .1)) j (rw (k .0) at b) (omega (arith, q)) c
 
 -- an event is its operation's first
-first-event : (r : Run) (j w : ℕ) → r .call j ≡ step w → eventAt r j ≢ nothing → effects r w j ≡ 0
+first-event : (r : Trace) (j w : ℕ) → r .call j ≡ step w → eventAt r j ≢ nothing → effects r w j ≡ 0
 first-event r j w ec ne = by (made-at r j (good r j) .tale)
   where
     turned : (x : Worker) (a b : Bool) (ev : Event) → ev ≢ nothing → Turned x a b ev → a ≡ false
@@ -107,7 +108,7 @@ first-event r j w ec ne = by (made-at r j (good r j) .tale)
     turned x a b (added k) n t = t .0
     turned x a b (removed k) n t = t .0
 
-    by : Tale (state r j) (Past r j) (r .call j) (left (state r j) (r .call j)) (eventAt r j) → effects r w j ≡ 0
+    by : Tale (state r j) (Past r j) (r .call j) (answerAt r j) (state r (suc j)) (eventAt r j) → effects r w j ≡ 0
     by (refused ew en lo hi hc) = absurd (ne en)
     by (begins v kind k q l ew en ea hc xi) = absurd (ne en)
     by (goes v q l y ew ek ey nb tn ea ty) =
@@ -127,10 +128,10 @@ starts-means w (start v kind k) a e =
     and-true false t e = absurd (true≢false (sym e))
 starts-means w (step v) a e = absurd (true≢false (sym e))
 
-starts-so : (r : Run) (w b kind k : ℕ) → r .call b ≡ start w kind k → answerAt r b ≡ Going → startsOf w (r .call b) (answerAt r b) ≡ true
+starts-so : (r : Trace) (w b kind k : ℕ) → r .call b ≡ start w kind k → answerAt r b ≡ Going → startsOf w (r .call b) (answerAt r b) ≡ true
 starts-so r w b kind k q g = rw (g, q, eq-eqb w w refl) refl
 
-began-is : (r : Run) (w kind k b e : ℕ) → Operation r w kind k b e → began r w e ≡ b
+began-is : (r : Trace) (w kind k b e : ℕ) → Operation r w kind k b e → began r w e ≡ b
 began-is r w kind k b zero o = absurd (omega (arith, o .before))
 began-is r w kind k b (suc i) o = by (ℕ-discrete b i) (startsOf w (r .call i) (answerAt r i)) refl (λ l. began-is r w kind k b i (record { before = l; started = o .started; going = o .going; last = λ j kind k p q. o .last j kind k p (omega arith) }))
   where
@@ -140,7 +141,7 @@ began-is r w kind k b (suc i) o = by (ℕ-discrete b i) (startsOf w (r .call i) 
     by (no ne) true st ih = let m = starts-means w (r .call i) (answerAt r i) st in absurd (o .last i (m .0) (m .1) (omega (arith, ne, o .before)) (omega arith) (m .2) (m .3))
     by (no ne) false st ih = pick-false _ i (began r w i) st ∙ ih (omega (arith, ne, o .before))
 
-no-later : (r : Run) (w i j : ℕ) → began r w i < j → j < i → startsOf w (r .call j) (answerAt r j) ≡ false
+no-later : (r : Trace) (w i j : ℕ) → began r w i < j → j < i → startsOf w (r .call j) (answerAt r j) ≡ false
 no-later r w zero j b u = absurd (omega arith)
 no-later r w (suc i) j b u = by (ℕ-discrete j i) (startsOf w (r .call i) (answerAt r i)) refl (no-later r w i j)
   where
@@ -150,7 +151,7 @@ no-later r w (suc i) j b u = by (ℕ-discrete j i) (startsOf w (r .call i) (answ
     by (no ne) false st ih = ih (rw (pick-false _ i (began r w i) st) at b) (omega (arith, ne))
 
 -- the operation of a busy worker
-operation : (r : Run) (i w : ℕ) → w < state r i .header .w → workerOf (state r i) w .place ≢ IDLE → Operation r w (workerOf (state r i) w .kind) (workerOf (state r i) w .key) (began r w i) i
+operation : (r : Trace) (i w : ℕ) → w < state r i .header .w → workerOf (state r i) w .place ≢ IDLE → Operation r w (workerOf (state r i) w .kind) (workerOf (state r i) w .key) (began r w i) i
 operation r i w lt nb =
     let p = ops r i w lt .busy nb in
     record {
@@ -191,7 +192,7 @@ own-event r i ne = by (made-at r i (good r i) .tale)
     mine x a b (added k) n t = says-added refl (t .2) (t .3)
     mine x a b (removed k) n t = says-removed refl (t .2) (t .3)
 
-    by : Tale (state r i) (Past r i) (r .call i) (left (state r i) (r .call i)) (eventAt r i)
+    by : Tale (state r i) (Past r i) (r .call i) (answerAt r i) (state r (suc i)) (eventAt r i)
         → (w : ℕ) × (kind : ℕ) × (k : ℕ) × (b : ℕ) × Operation r w kind k b i × Own r w b i i × Says k ⊥ kind Yes (eventAt r i)
     by (refused ew en lo hi hc) = absurd (ne en)
     by (begins v kind k q l ew en ea hc xi) = absurd (ne en)
@@ -201,7 +202,7 @@ own-event r i ne = by (made-at r i (good r i) .tale)
     by (ends v q l ew en nb td ty) = absurd (ne en)
 
 -- ---- an operation and its one effect
-module _ (r : Run) (w kind k b e : ℕ) (o : Operation r w kind k b e) where
+module _ (r : Trace) (w kind k b e : ℕ) (o : Operation r w kind k b e) where
   start-is : began r w e ≡ b
   start-is = began-is r w kind k b e o
 
@@ -266,7 +267,7 @@ says-own yes-insert = yes-insert
 says-own yes-delete = yes-delete
 says-own (yes-find n) = absurd n
 
-module _ (r : Run) (w kind k b e : ℕ) (o : Operation r w kind k b e) (ec : r .call e ≡ step w) where
+module _ (r : Trace) (w kind k b e : ℕ) (o : Operation r w kind k b e) (ec : r .call e ≡ step w) where
   abbrev a : Answer
   a = answerAt r e
 

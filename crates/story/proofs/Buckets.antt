@@ -17,7 +17,7 @@ use Rattle.tree.specs.Tree.{parentOf, nextDown}
 use Rattle.split.proofs.Laws.{dummy-first}
 use Rattle.tree.proofs.Laws.{parent-le, on-path-self, on-path-up, on-path-le, next-down-parent}
 use Rattle.promises.proofs.Order.{parent-first}
-use Rattle.words.specs.Words.{STANDING, SPLIT-KEY, TAKEN, put, bucket}
+use Rattle.words.specs.Words.{STANDING, SPLIT-KEY, TAKEN, put}
 use Rattle.scans.specs.Scans.{lowest}
 use Rattle.scans.proofs.Laws.{lowest-free}
 use Rattle.names.specs.Names.{TB, B2, B4, F1, KEY, DUMMY}
@@ -31,6 +31,7 @@ use Rattle.acts.specs.declared.Move.{Move}
 use Rattle.acts.specs.declared.Move.the-variants.{Going}
 use Rattle.moves.specs.Moves.{tb, b2, b4, b8, sz}
 use Rattle.register.specs.Chain.{key, standing}
+use Rattle.story.specs.Trace.{ticked}
 use Rattle.story.proofs.Chain.{some-on}
 use Rattle.story.proofs.Registers.{unmoved}
 use Rattle.story.proofs.Facts as F
@@ -40,9 +41,9 @@ use Rattle.story.proofs.Core.{Pasts}
 use Rattle.story.proofs.Acts.{take-dummy, take-later, take-same, take-key-is}
 use Rattle.story.proofs.Ends.{stored}
 use Rattle.story.proofs.Dummies.{some-free}
-use Rattle.story.proofs.Steps.{took, ticked, Ctx, me, core, Good, Stands, looks, past, seen}
+use Rattle.story.proofs.Steps.{took, Ctx, me, core, Good, Stands, looks, past, seen}
 
-module _ {h : Header} {ws : List Worker} {Ps Qs : Pasts} {w : ℕ} {c m bs : List ℕ} (z : Ctx h ws Ps Qs w c m bs) where
+module _ {h : Header} {ws : List Worker} {Ps Qs : Pasts} {w : ℕ} {c m : List ℕ} {β : ℕ → ℕ} (z : Ctx h ws Ps Qs w c m β) where
   abbrev x : Worker
   x = me z
 
@@ -75,37 +76,37 @@ module _ {h : Header} {ws : List Worker} {Ps Qs : Pasts} {w : ℕ} {c m bs : Lis
       below = rw (z .inv .size .2 .2) (dummy-first (z .inv .size .2 .0) (x .key) (omega (arith, s .sane .3)))
 
   -- a bucket word is 0 or its dummy
-  in-range : (b : ℕ) → b < h .m → Dec (bucket bs b ≡ 0) → ltb N (bucket bs b) ≡ false
+  in-range : (b : ℕ) → b < h .m → Dec (β b ≡ 0) → ltb N (β b) ≡ false
   in-range b l (yes e) = rw e (le-ltb N 0 (omega arith))
-  in-range b l (no ne) = le-ltb N (bucket bs b) (g₀ .fits (bucket bs b) (z .inv .root b l ne .on))
+  in-range b l (no ne) = le-ltb N (β b) (g₀ .fits (β b) (z .inv .root b l ne .on))
 
-  not-first : (b : ℕ) → bucket bs b ≡ 0 → b ≢ 0
+  not-first : (b : ℕ) → β b ≡ 0 → b ≢ 0
   not-first b e q = z .inv .root₀ (rw q at e)
 
   -- TB
-  pub tb-good : Stands z F.tb → F.At h w c m (Ps w) F.tb x → G (tb (seen h x (bucket bs (x .wanted)) 0))
+  pub tb-good : Stands z F.tb → F.At h w c m (Ps w) F.tb x → G (tb (seen h x (β (x .wanted)) 0))
   unfolding tb pick
-  tb-good s b = past G _ _ (in-range (x .wanted) (s .sane .4) (ℕ-discrete (bucket bs (x .wanted)) 0))
-      (by-eq G (bucket bs (x .wanted)) 0
+  tb-good s b = past G _ _ (in-range (x .wanted) (s .sane .4) (ℕ-discrete (β (x .wanted)) 0))
+      (by-eq G (β (x .wanted)) 0
       (λ e. looks z false F.tb s (s .dum) F.b2 (to B2 (withMaking (x .wanted) x)) refl
       (s .sane .0, s .sane .1, s .sane .2, s .sane .3, s .sane .4, s .sane .4, s .sane .6, s .sane .7, s .sane .8, s .sane .9, s .sane .10, s .sane .11)
       (sym (s .hand)) refl refl refl (b .0, record { below = b .1; some = not-first (x .wanted) e; path = on-path-self (x .wanted) }) refl)
       (λ ne. let o = z .inv .root (x .wanted) (s .sane .4) ne in
-      looks z false F.tb s (s .dum) F.f1 (to F1 (withStart (bucket bs (x .wanted)) (withErrand KEY x))) refl
-      (s .sane .0, s .sane .1, omega arith, s .sane .3, s .sane .4, s .sane .5, g₀ .fits (bucket bs (x .wanted)) (o .on), s .sane .7, s .sane .8, s .sane .9, s .sane .10, s .sane .11)
+      looks z false F.tb s (s .dum) F.f1 (to F1 (withStart (β (x .wanted)) (withErrand KEY x))) refl
+      (s .sane .0, s .sane .1, omega arith, s .sane .3, s .sane .4, s .sane .5, g₀ .fits (β (x .wanted)) (o .on), s .sane .7, s .sane .8, s .sane .9, s .sane .10, s .sane .11)
       (sym (s .hand)) refl refl refl (forKey refl (b .0), record { on = o .on; sort = o .sort; low = rw (o .has) (b .1) }) refl))
 
   -- B2
-  pub b2-good : Stands z F.b2 → F.At h w c m (Ps w) F.b2 x → G (b2 (seen h x (bucket bs (parentOf (x .making))) 0))
+  pub b2-good : Stands z F.b2 → F.At h w c m (Ps w) F.b2 x → G (b2 (seen h x (β (parentOf (x .making))) 0))
   unfolding b2
-  b2-good s b = past G _ _ (in-range up fits (ℕ-discrete (bucket bs up) 0))
-      (by-eq G (bucket bs up) 0
+  b2-good s b = past G _ _ (in-range up fits (ℕ-discrete (β up) 0))
+      (by-eq G (β up) 0
       (λ e. looks z false F.b2 s (s .dum) F.b2 (withMaking up x) (s .place)
       (s .sane .0, s .sane .1, s .sane .2, s .sane .3, s .sane .4, fits, s .sane .6, s .sane .7, s .sane .8, s .sane .9, s .sane .10, s .sane .11)
       (sym (s .hand)) refl refl refl (b .0, record { below = b .1 .below; some = not-first up e; path = on-path-up (x .wanted) (x .making) (b .1 .path) }) refl)
       (λ ne. let o = z .inv .root up fits ne in
-      looks z false F.b2 s (s .dum) F.b4 (to B4 (withStart (bucket bs up) x)) refl
-      (s .sane .0, s .sane .1, s .sane .2, s .sane .3, s .sane .4, s .sane .5, g₀ .fits (bucket bs up) (o .on), s .sane .7, s .sane .8, s .sane .9, s .sane .10, s .sane .11)
+      looks z false F.b2 s (s .dum) F.b4 (to B4 (withStart (β up) x)) refl
+      (s .sane .0, s .sane .1, s .sane .2, s .sane .3, s .sane .4, s .sane .5, g₀ .fits (β up) (o .on), s .sane .7, s .sane .8, s .sane .9, s .sane .10, s .sane .11)
       (sym (s .hand)) refl refl refl (b .0, b .1, record { on = o .on; sort = o .sort; low = rw (o .has) first }) refl))
     where
       up : ℕ

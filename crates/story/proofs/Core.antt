@@ -8,7 +8,7 @@ use native.Mathlib.Omega.{arith}
 use native.Mathlib.Decide.{ℕ-discrete}
 use lib.ListN.{length, getD, set, length-set}
 use lib.Seq.{getD-set-same, getD-set-other}
-use Rattle.words.specs.Words.{TAKEN, bucket}
+use Rattle.words.specs.Words.{TAKEN}
 use Rattle.sets.specs.Sets.{bit}
 use Rattle.names.specs.Names.{IDLE}
 use Rattle.header.specs.declared.Header.{Header}
@@ -45,8 +45,8 @@ pub record Holder (W : ℕ) (ws : List Worker) (w n : ℕ) : Type 0 where
   pub other : who ≢ w
   pub has : (heldKey (recordOf ws who) ≡ n) ⊎ (heldDummy (recordOf ws who) ≡ n)
 
--- worker w, whose record is not looked at, holds nodes k and d, 0 for none
-pub record Core (h : Header) (ws : List Worker) (Ps : Pasts) (w k d : ℕ) (c m bs : List ℕ) : Type 0 where
+-- worker w, whose record is not looked at, holds nodes k and d, 0 for none; β is the value of each bucket
+pub record Core (h : Header) (ws : List Worker) (Ps : Pasts) (w k d : ℕ) (c m : List ℕ) (β : ℕ → ℕ) : Type 0 where
   pub limits : Limits h
   pub size : PowerFromTo 2 (h .m) (h .size)
   pub few : h .busy < 2 ^ h .w
@@ -63,13 +63,12 @@ pub record Core (h : Header) (ws : List Worker) (Ps : Pasts) (w k d : ℕ) (c m 
   pub waits : (n v : ℕ) → n ≤ nodesOf h → standing m n < 65536 → bit v (standing m n) ≡ 1 → bit v (h .busy) ≡ 1
   pub keyed : (n : ℕ) → n ≤ nodesOf h → 1 ≤ standing m n → standing m n < 65536 → dummiesOf h < n
   pub exact : (n : ℕ) → In n c → n ≤ dummiesOf h → OfBucket (h .m) (key m n)
-  pub room : h .m ≤ length bs
-  pub root₀ : bucket bs 0 ≢ 0
-  pub root : (b : ℕ) → b < h .m → bucket bs b ≢ 0 → Root (dummiesOf h) c m b (bucket bs b)
+  pub root₀ : β 0 ≢ 0
+  pub root : (b : ℕ) → b < h .m → β b ≢ 0 → Root (dummiesOf h) c m b (β b)
 
 -- the invariant: nobody is set aside
-abbrev pub Inv : Header → List Worker → Pasts → List ℕ → List ℕ → List ℕ → Type 0
-Inv h ws Ps c m bs = Core h ws Ps (h .w) 0 0 c m bs
+abbrev pub Inv : Header → List Worker → Pasts → List ℕ → List ℕ → (ℕ → ℕ) → Type 0
+Inv h ws Ps c m β = Core h ws Ps (h .w) 0 0 c m β
 
 -- a busy record's place is none of an idle one
 pub not-idle : (p : Spot) → number p ≢ 0
@@ -107,11 +106,11 @@ grown h v c m P Q up x (inl e) = inl e
 grown h v c m P Q up x (inr b) = inr (st.busy h v 0 c m c m (same (dummiesOf h) (nodesOf h) v 0 c m) P Q up x b (λ z. z) (λ z. z))
 
 -- ---- a worker is set aside, and comes back
-module _ {h : Header} {ws : List Worker} {Ps : Pasts} {c m bs : List ℕ} (inv : Inv h ws Ps c m bs) (w : ℕ) (lt : w < h .w) where
+module _ {h : Header} {ws : List Worker} {Ps : Pasts} {c m : List ℕ} {β : ℕ → ℕ} (inv : Inv h ws Ps c m β) (w : ℕ) (lt : w < h .w) where
   pub whose : Fact h w c m (Ps w) (recordOf ws w)
   whose = inv .fact w lt (omega arith)
 
-  pub aside : Core h ws Ps w (heldKey (recordOf ws w)) (heldDummy (recordOf ws w)) c m bs
+  pub aside : Core h ws Ps w (heldKey (recordOf ws w)) (heldDummy (recordOf ws w)) c m β
   aside = record {
     limits = inv .limits;
     size = inv .size;
@@ -129,7 +128,6 @@ module _ {h : Header} {ws : List Worker} {Ps : Pasts} {c m bs : List ℕ} (inv :
     waits = inv .waits;
     keyed = inv .keyed;
     exact = inv .exact;
-    room = inv .room;
     root₀ = inv .root₀;
     root = inv .root;
   }
@@ -141,7 +139,7 @@ module _ {h : Header} {ws : List Worker} {Ps : Pasts} {c m bs : List ℕ} (inv :
       by-who n a (yes e) = inl (rw e at (a .has))
       by-who n a (no ne) = inr (record { who = a .who; real = a .real; other = ne; has = a .has })
 
-module _ {h : Header} {ws : List Worker} {Ps : Pasts} {w k d : ℕ} {c m bs : List ℕ} (core : Core h ws Ps w k d c m bs) (lt : w < h .w) (y : Worker)
+module _ {h : Header} {ws : List Worker} {Ps : Pasts} {w k d : ℕ} {c m : List ℕ} {β : ℕ → ℕ} (core : Core h ws Ps w k d c m β) (lt : w < h .w) (y : Worker)
     (Qs : Pasts) (up : (v : ℕ) → v ≢ w → st.Grows (Ps v) (Qs v)) (f : Fact h w c m (Qs w) y) (ag : Agrees y (bit w (h .busy)))
     (ek : heldKey y ≡ k) (ed : heldDummy y ≡ d) where
   abbrev ws′ : List Worker
@@ -153,7 +151,7 @@ module _ {h : Header} {ws : List Worker} {Ps : Pasts} {w k d : ℕ} {c m bs : Li
   there-is : (v : ℕ) → v ≢ w → recordOf ws′ v ≡ recordOf ws v
   there-is v ne = getD-set-other ws w v y idle ne
 
-  pub back : Inv h ws′ Qs c m bs
+  pub back : Inv h ws′ Qs c m β
   back = record {
     limits = core .limits;
     size = core .size;
@@ -171,7 +169,6 @@ module _ {h : Header} {ws : List Worker} {Ps : Pasts} {w k d : ℕ} {c m bs : Li
     waits = core .waits;
     keyed = core .keyed;
     exact = core .exact;
-    room = core .room;
     root₀ = core .root₀;
     root = core .root;
   }
@@ -229,7 +226,7 @@ pub record Shift (h : Header) (w k d k′ d′ g : ℕ) (c m c′ m′ : List �
   pub exact : (n : ℕ) → In n c′ → n ≤ dummiesOf h → OfBucket (h .m) (key m′ n)
   pub roots : (n : ℕ) → In n c → n ≤ dummiesOf h → In n c′ × (key m′ n ≡ key m n)
 
-module _ {h : Header} {ws : List Worker} {Ps : Pasts} {w k d : ℕ} {c m bs : List ℕ} (core : Core h ws Ps w k d c m bs)
+module _ {h : Header} {ws : List Worker} {Ps : Pasts} {w k d : ℕ} {c m : List ℕ} {β : ℕ → ℕ} (core : Core h ws Ps w k d c m β)
     {k′ d′ g : ℕ} {c′ m′ : List ℕ} (s : Shift h w k d k′ d′ g c m c′ m′) where
   abbrev x : ℕ → Worker
   x v = recordOf ws v
@@ -263,7 +260,7 @@ module _ {h : Header} {ws : List Worker} {Ps : Pasts} {w k d : ℕ} {c m bs : Li
       db : heldDummy (x v) ≡ dumOf (b .spot) (x v)
       db = dummy-is h v c m (Ps v) (x v) b
 
-  pub shift : Core h ws Ps w k′ d′ c′ m′ bs
+  pub shift : Core h ws Ps w k′ d′ c′ m′ β
   shift = record {
     limits = core .limits;
     size = core .size;
@@ -283,10 +280,9 @@ module _ {h : Header} {ws : List Worker} {Ps : Pasts} {w k d : ℕ} {c m bs : Li
     waits = s .waits;
     keyed = s .keyed;
     exact = s .exact;
-    room = core .room;
     root₀ = core .root₀;
-    root = λ b l ne. let o : Root (dummiesOf h) c m b (bucket bs b) = core .root b l ne in
-        record { on = s .roots (bucket bs b) (o .on) (o .sort) .0; sort = o .sort; has = s .roots (bucket bs b) (o .on) (o .sort) .1 ∙ o .has };
+    root = λ b l ne. let o : Root (dummiesOf h) c m b (β b) = core .root b l ne in
+        record { on = s .roots (β b) (o .on) (o .sort) .0; sort = o .sort; has = s .roots (β b) (o .on) (o .sort) .1 ∙ o .has };
   }
     where
       mine : {n : ℕ} → In n c′ ⊎ ((k′ ≡ n) ⊎ (d′ ≡ n)) → In n c′ ⊎ ((k′ ≡ n) ⊎ (d′ ≡ n)) ⊎ Holder (h .w) ws w n

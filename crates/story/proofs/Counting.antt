@@ -16,11 +16,9 @@ use Rattle.record.specs.declared.Worker.{Worker}
 use Rattle.record.specs.Worker.{idle, fresh, begun}
 use Rattle.moves.specs.Moves.{countUp, countDown}
 use Rattle.register.specs.Events.{Event, nothing, adds, removes, all, uncountedIn, uncountedOut, sumOf}
-use Rattle.story.specs.Run.{State, workerOf, left, Run, state, event}
-use Rattle.story.specs.Story.{Count}
+use Rattle.story.specs.Trace.{Shared, workerOf, First, Trace, state, answerAt, eventAt, Count}
 use Rattle.story.proofs.Tally.{Tally, none}
 use Rattle.story.proofs.Calls.{Tale, refused, begins, goes, ends}
-use Rattle.story.proofs.Fresh.{Ready, ready, kept}
 use Rattle.story.proofs.Theorem.{Past, good, made-at}
 use Rattle.story.proofs.Keys.{additions, removals, bounded}
 
@@ -99,16 +97,16 @@ downs c i o up down o′ p b e = by (ℕ-discrete c 0)
         (omega (arith, e .0), ⊎-elim (λ s. inl (omega arith)) (λ s. inr (omega arith)) (e .1))
 
 -- ---- along a run
-abbrev ins : Run → ℕ → ℕ
+abbrev ins : Trace → ℕ → ℕ
 ins r i = sumOf uncountedIn (state r i .workers) (state r i .header .w)
 
-abbrev outs : Run → ℕ → ℕ
+abbrev outs : Trace → ℕ → ℕ
 outs r i = sumOf uncountedOut (state r i .workers) (state r i .header .w)
 
-abbrev Sum : Run → ℕ → Type 0
+abbrev Sum : Trace → ℕ → Type 0
 Sum r i = Even (state r i .header .count) (ins r i) (outs r i) (additions r i) (removals r i)
 
-bounds : (r : Run) (i : ℕ) → Bounds (ins r i) (outs r i) (additions r i) (removals r i)
+bounds : (r : Trace) (i : ℕ) → Bounds (ins r i) (outs r i) (additions r i) (removals r i)
 bounds r i =
     let l = good r i .inv .limits in
     let b = bounded r i in
@@ -119,12 +117,12 @@ bounds r i =
       below = omega (arith, b .1, l .buckets .1, l .workers .1, l .keys .1);
     }
 
-module _ (r : Run) (i : ℕ) (e : Sum r i) where
-  abbrev s : State
+module _ (r : Trace) (i : ℕ) (e : Sum r i) where
+  abbrev s : Shared
   s = state r i
 
   abbrev ev : Event
-  ev = event s (r .call i)
+  ev = eventAt r i
 
   width : state r (suc i) .header .w ≡ s .header .w
   width = made-at r i (good r i) .sizes .2
@@ -161,7 +159,7 @@ module _ (r : Run) (i : ℕ) (e : Sum r i) where
         same-as (q .0) (omega (arith, ci, q .1)) refl (n .0) (n .1)
         (downs (s .header .count) (ins r i) (outs r i) (additions r i) (removals r i) (outs r (suc i)) (omega (arith, co, q .2)) (bounds r i) e)
 
-  sum-suc : Tale s (Past r i) (r .call i) (left s (r .call i)) ev → Sum r (suc i)
+  sum-suc : Tale s (Past r i) (r .call i) (answerAt r i) (state r (suc i)) ev → Sum r (suc i)
   sum-suc (refused ew en lo hi hc) = let n = adds-none en in same-as hc (unchanged uncountedIn ew) (unchanged uncountedOut ew) (n .0) (n .1) e
   sum-suc (begins w kind k q l ew en ea hc xi) =
       let n = adds-none en in
@@ -172,11 +170,11 @@ module _ (r : Run) (i : ℕ) (e : Sum r i) where
   sum-suc (goes w q l y ew ek ey nb tn ea ty) = by-tally w y l ew ty
   sum-suc (ends w q l ew en nb td ty) = by-tally w idle l ew ty
 
-sum : (r : Run) (i : ℕ) → Sum r i
+sum : (r : Trace) (i : ℕ) → Sum r i
 sum r zero = (rw z (omega arith), inl (omega (arith, z, a, b)))
   where
-    p : Ready (r .limits) (kept r) (state r 0)
-    p = ready r
+    p : First (r .limits) (state r 0)
+    p = r .first
 
     z : state r 0 .header .count ≡ 0
     z = ap (λ (h : Header). h .count) (p .header)

@@ -21,7 +21,7 @@ use Rattle.story.proofs.Chain.{same-key}
 use Rattle.story.proofs.Core.{Pasts, recordOf, fact-key, Holder, Core}
 
 -- a slot for each bucket and for each worker: 1 to M, then M + 1 to M + W
-module _ {h : Header} {ws : List Worker} {Ps : Pasts} {w k d : ℕ} {c m bs : List ℕ} (core : Core h ws Ps w k d c m bs) where
+module _ {h : Header} {ws : List Worker} {Ps : Pasts} {w k d : ℕ} {c m : List ℕ} {β : ℕ → ℕ} (core : Core h ws Ps w k d c m β) where
   -- node n is on the chain for bucket b, or worker v, who is not w, has it in hand
   data Slot (n : ℕ) : ℕ → Type 0 where
     bucket : (b : ℕ) → b < h .m → In n c → key m n ≡ dummy b → Slot n (suc b)

@@ -6,10 +6,14 @@ use mathlib.Core.List.{List}
 use Prim.Native.Nat.{ℕ, zero, suc, _^_, _≤_, _<_}
 use native.Mathlib.Omega.{arith}
 use native.Mathlib.Decide.{ℕ-discrete}
+use lib.Dec.{eqb}
 use lib.ListN.{set}
+use borrow.Author.Tests.{eq-eqb, ne-eqb}
+use Rattle.choice.specs.Choice.{pick}
+use Rattle.choice.proofs.Auto.{pick-true, pick-false}
 use Rattle.choice.proofs.Cases.{by-eq, both}
-use Rattle.words.specs.Words.{SPLIT-KEY, LINK, STANDING, TAKEN, put, bucket, store}
-use Rattle.words.proofs.Laws.{nothing, store-length, store-same, store-other}
+use Rattle.words.specs.Words.{SPLIT-KEY, LINK, STANDING, TAKEN, put}
+use Rattle.words.proofs.Laws.{nothing}
 use Rattle.sets.specs.Sets.{bit, dropped, raised}
 use Rattle.sets.proofs.Laws.{bit-some, dropped-same, dropped-other, dropped-lt, raised-same, raised-other, raised-lt}
 use Rattle.scans.specs.Scans.{leave, sweep}
@@ -20,7 +24,10 @@ use Rattle.header.specs.Header.{dummiesOf, nodesOf, busied}
 use Rattle.header.specs.Rows.{PowerFromTo}
 use Rattle.record.specs.declared.Worker.{Worker}
 use Rattle.record.specs.Worker.{fresh, idle, begun, heldKey, heldDummy}
+use Rattle.writes.specs.declared.Stores.{Stores}
+use Rattle.writes.specs.declared.Stores.the-variants.{None, Into}
 use Rattle.register.specs.Chain.{key, link, standing}
+use Rattle.story.specs.Trace.{Quiet, Keeps}
 use Rattle.story.proofs.Memory
 use Rattle.story.proofs.Facts.{Root, Spot, i1, sz, tb, b2, b4, f1, f2, f3, f4, l2, b8, i8, i9, i10, d4a, d4b, d6, At, Sane, Busy, Fact}
 use Rattle.story.proofs.Stable.{Grows}
@@ -59,9 +66,33 @@ module _ (h : Header) (z n b v : ℕ) (c m : List ℕ) (P : ℕ → ℕ → ℕ 
   fact-headed x (inl e) = inl e
   fact-headed x (inr f) = inr (record { spot = f .spot; place = f .place; sane = f .sane; held = f .held; dum = f .dum; at = at-headed (f .spot) x (f .at) })
 
-module _ {h : Header} {ws : List Worker} {Ps : Pasts} {w k d : ℕ} {c m bs : List ℕ} (core : Core h ws Ps w k d c m bs) where
+-- ---- the values once a node is stored in a bucket
+abbrev pub valued : Stores → (ℕ → ℕ) → ℕ → ℕ
+valued None β = β
+valued (Into b n) β = λ i. pick (eqb i b) n (β i)
+
+valued-same : (b n : ℕ) (β : ℕ → ℕ) → valued (Into b n) β b ≡ n
+valued-same b n β = pick-true (eqb b b) n (β b) (eq-eqb b b refl)
+
+valued-other : (b n : ℕ) (β : ℕ → ℕ) (i : ℕ) → i ≢ b → valued (Into b n) β i ≡ β i
+valued-other b n β i ne = pick-false (eqb i b) n (β i) (ne-eqb i b ne)
+
+-- these values keep the laws, and whatever keeps them has these values
+pub keeps-valued : (M : ℕ) (st : Stores) (β : ℕ → ℕ) → Keeps M st β (valued st β)
+keeps-valued M None β = λ i l. refl
+keeps-valued M (Into b n) β = (λ l. valued-same b n β, λ i l ne. valued-other b n β i ne)
+
+pub by-laws : (M : ℕ) (st : Stores) (β β′ : ℕ → ℕ) → Keeps M st β β′ → Quiet M (valued st β) β′
+by-laws M None β β′ k = k
+by-laws M (Into b n) β β′ k = λ i l. by i l (ℕ-discrete i b)
+  where
+    by : (i : ℕ) → i < M → Dec (i ≡ b) → β′ i ≡ valued (Into b n) β i
+    by i l (yes e) = rw e (k .0 (rw e at l) ∙ sym (valued-same b n β))
+    by i l (no ne) = k .1 i l ne ∙ sym (valued-other b n β i ne)
+
+module _ {h : Header} {ws : List Worker} {Ps : Pasts} {w k d : ℕ} {c m : List ℕ} {β : ℕ → ℕ} (core : Core h ws Ps w k d c m β) where
   pub reheaded : (z n b : ℕ) → PowerFromTo 2 (h .m) z → b < 2 ^ h .w → ((v : ℕ) → v < h .w → v ≢ w → bit v b ≡ bit v (h .busy))
-      → ((i v : ℕ) → i ≤ nodesOf h → standing m i < 65536 → bit v (standing m i) ≡ 1 → bit v b ≡ 1) → Core (headed z n b h) ws Ps w k d c m bs
+      → ((i v : ℕ) → i ≤ nodesOf h → standing m i < 65536 → bit v (standing m i) ≡ 1 → bit v b ≡ 1) → Core (headed z n b h) ws Ps w k d c m β
   reheaded z n b size few bits waits = record {
     limits = record { buckets = core .limits .buckets; keys = core .limits .keys; workers = core .limits .workers; load = core .limits .load };
     size = size;
@@ -79,20 +110,42 @@ module _ {h : Header} {ws : List Worker} {Ps : Pasts} {w k d : ℕ} {c m bs : Li
     waits = waits;
     keyed = core .keyed;
     exact = core .exact;
-    room = core .room;
     root₀ = core .root₀;
     root = core .root;
   }
 
   -- I9, D6: the count; I10: the size
-  pub recounted : (n : ℕ) → Core (headed (h .size) n (h .busy) h) ws Ps w k d c m bs
+  pub recounted : (n : ℕ) → Core (headed (h .size) n (h .busy) h) ws Ps w k d c m β
   recounted n = reheaded (h .size) n (h .busy) (core .size) (core .few) (λ v l ne. refl) (core .waits)
 
-  pub resized : (z : ℕ) → PowerFromTo 2 (h .m) z → Core (headed z (h .count) (h .busy) h) ws Ps w k d c m bs
+  pub resized : (z : ℕ) → PowerFromTo 2 (h .m) z → Core (headed z (h .count) (h .busy) h) ws Ps w k d c m β
   resized z p = reheaded z (h .count) (h .busy) p (core .few) (λ v l ne. refl) (core .waits)
 
+  -- values that are the same below M are as good
+  pub reread : {β′ : ℕ → ℕ} → Quiet (h .m) β β′ → Core h ws Ps w k d c m β′
+  reread {β′} same = record {
+    limits = core .limits;
+    size = core .size;
+    few = core .few;
+    long = core .long;
+    glob = core .glob;
+    key-held = core .key-held;
+    dum-held = core .dum-held;
+    fact = core .fact;
+    bits = core .bits;
+    apart = core .apart;
+    key-mine = core .key-mine;
+    dum-mine = core .dum-mine;
+    whole = core .whole;
+    waits = core .waits;
+    keyed = core .keyed;
+    exact = core .exact;
+    root₀ = λ z. core .root₀ (sym (same 0 (omega (arith, core .limits .buckets .0))) ∙ z);
+    root = λ i l z. rw (same i l) (core .root i l (λ e. z (same i l ∙ e)));
+  }
+
   -- B8: a bucket is set to its dummy
-  pub stored : (b n : ℕ) → b < h .m → n ≢ 0 → Root (dummiesOf h) c m b n → Core h ws Ps w k d c m (store bs b n)
+  pub stored : (b n : ℕ) → b < h .m → n ≢ 0 → Root (dummiesOf h) c m b n → Core h ws Ps w k d c m (valued (Into b n) β)
   stored b n lt ne o = record {
     limits = core .limits;
     size = core .size;
@@ -110,24 +163,23 @@ module _ {h : Header} {ws : List Worker} {Ps : Pasts} {w k d : ℕ} {c m bs : Li
     waits = core .waits;
     keyed = core .keyed;
     exact = core .exact;
-    room = rw (store-length bs b n) (core .room);
     root₀ = first (ℕ-discrete 0 b);
     root = λ i l. root i l (ℕ-discrete i b);
   }
     where
-      here : bucket (store bs b n) b ≡ n
-      here = store-same bs b n (omega (arith, core .room))
+      here : valued (Into b n) β b ≡ n
+      here = valued-same b n β
 
-      first : Dec (0 ≡ b) → bucket (store bs b n) 0 ≢ 0
-      first (yes e) z = ne (sym here ∙ ap (bucket (store bs b n)) (sym e) ∙ z)
-      first (no q) z = core .root₀ (sym (store-other bs b n 0 q) ∙ z)
+      first : Dec (0 ≡ b) → valued (Into b n) β 0 ≢ 0
+      first (yes e) z = ne (sym here ∙ ap (valued (Into b n) β) (sym e) ∙ z)
+      first (no q) z = core .root₀ (sym (valued-other b n β 0 q) ∙ z)
 
-      root : (i : ℕ) → i < h .m → Dec (i ≡ b) → bucket (store bs b n) i ≢ 0 → Root (dummiesOf h) c m i (bucket (store bs b n) i)
+      root : (i : ℕ) → i < h .m → Dec (i ≡ b) → valued (Into b n) β i ≢ 0 → Root (dummiesOf h) c m i (valued (Into b n) β i)
       root i l (yes e) z = rw (e, here) o
-      root i l (no q) z = rw (store-other bs b n i q) (core .root i l (rw (store-other bs b n i q) at z))
+      root i l (no q) z = rw (valued-other b n β i q) (core .root i l (rw (valued-other b n β i q) at z))
 
 -- ---- the sweep
-module _ {h : Header} {ws : List Worker} {Ps : Pasts} {w : ℕ} {c m bs : List ℕ} (core : Core h ws Ps w 0 0 c m bs) where
+module _ {h : Header} {ws : List Worker} {Ps : Pasts} {w : ℕ} {c m : List ℕ} {β : ℕ → ℕ} (core : Core h ws Ps w 0 0 c m β) where
   abbrev m′ : List ℕ
   m′ = sweep w (nodesOf h) m
 
@@ -173,7 +225,7 @@ module _ {h : Header} {ws : List Worker} {Ps : Pasts} {w : ℕ} {c m bs : List �
       let q = leave-was w (standing m (suc n)) (core .glob .kinds (suc n) b) (rw e at lo) (rw e at hi) in
       core .keyed (suc n) b (q .0) (q .1)
 
-  pub sweeps : Core h ws Ps w 0 0 c m′ bs
+  pub sweeps : Core h ws Ps w 0 0 c m′ β
   sweeps = shift core {g = 0} (record {
     glob = swept (dummiesOf h) (nodesOf h) w c m m′ (core .glob) (sweep-length w (nodesOf h) m) sk sl ss;
     later = λ v ne t. swept-later (dummiesOf h) (nodesOf h) w c m m′ (core .glob) (sweep-length w (nodesOf h) m) sk sl ss v 0 ne;
@@ -191,21 +243,21 @@ module _ {h : Header} {ws : List Worker} {Ps : Pasts} {w : ℕ} {c m bs : List �
     roots = λ n i b. (i, sk n);
   })
 
-  pub leaves : Core (headed (h .size) (h .count) (dropped w (h .busy)) h) ws Ps w 0 0 c m′ bs
+  pub leaves : Core (headed (h .size) (h .count) (dropped w (h .busy)) h) ws Ps w 0 0 c m′ β
   leaves = reheaded sweeps (h .size) (h .count) (dropped w (h .busy)) (core .size) (dropped-lt w (h .w) (h .busy) (core .few))
       (λ v l ne. dropped-other v w (h .busy) ne)
       (λ n v b a e. let q = still n v b a e in dropped-other v w (h .busy) (q .1) ∙ q .0)
 
 -- ---- the end of an operation
-module _ {h : Header} {ws : List Worker} {Ps : Pasts} {w k d : ℕ} {c m bs : List ℕ} (core : Core h ws Ps w k d c m bs) where
+module _ {h : Header} {ws : List Worker} {Ps : Pasts} {w k d : ℕ} {c m : List ℕ} {β : ℕ → ℕ} (core : Core h ws Ps w k d c m β) where
   abbrev pub freedBoth : List ℕ
   freedBoth = put (put m k STANDING 0) d STANDING 0
 
-  quiet : Core (headed (h .size) (h .count) (dropped w (h .busy)) h) ws Ps w 0 0 c (sweep w (nodesOf h) freedBoth) bs
+  quiet : Core (headed (h .size) (h .count) (dropped w (h .busy)) h) ws Ps w 0 0 c (sweep w (nodesOf h) freedBoth) β
   quiet = leaves (free-dummy (free-key core))
 
   pub ends : w < h .w → (Qs : Pasts) → ((v : ℕ) → v ≢ w → Grows (Ps v) (Qs v))
-      → Inv (busied (dropped w (h .busy)) h) (set ws w idle) Qs c (sweep w (nodesOf h) freedBoth) bs
+      → Inv (busied (dropped w (h .busy)) h) (set ws w idle) Qs c (sweep w (nodesOf h) freedBoth) β
   ends lt Qs up = back quiet lt idle Qs up (inl refl) (inl (refl, dropped-same w (h .busy))) idle-key idle-dummy
 
   pub ends-same : (j : ℕ) → Same m (sweep w (nodesOf h) freedBoth) j
@@ -227,7 +279,7 @@ begun-dummy : (kind k : ℕ) → heldDummy (begun kind k) ≡ 0
 unfolding heldDummy begun
 begun-dummy kind k = both (λ (y : ℕ). y ≡ 0) _ refl refl
 
-module _ {h : Header} {ws : List Worker} {Ps : Pasts} {c m bs : List ℕ} (inv : Inv h ws Ps c m bs) (w kind k : ℕ) (lt : w < h .w) (rest : recordOf ws w ≡ idle)
+module _ {h : Header} {ws : List Worker} {Ps : Pasts} {c m : List ℕ} {β : ℕ → ℕ} (inv : Inv h ws Ps c m β) (w kind k : ℕ) (lt : w < h .w) (rest : recordOf ws w ≡ idle)
     (known : (INSERT ≤ kind) × (kind ≤ DELETE)) (low : k ≤ KEY-LIMIT) where
   abbrev h′ : Header
   h′ = busied (raised w (h .busy)) h
@@ -235,10 +287,10 @@ module _ {h : Header} {ws : List Worker} {Ps : Pasts} {c m bs : List ℕ} (inv :
   w32 : w < 32
   w32 = omega (arith, inv .limits .workers .1)
 
-  ready : Core h ws Ps w 0 0 c m bs
+  ready : Core h ws Ps w 0 0 c m β
   ready = rw (rest, idle-key, idle-dummy) at (aside inv w lt)
 
-  opened : Core h′ ws Ps w 0 0 c m bs
+  opened : Core h′ ws Ps w 0 0 c m β
   opened = reheaded ready (h .size) (h .count) (raised w (h .busy)) (inv .size) (raised-lt w (h .w) (h .busy) lt (inv .few))
       (λ v l ne. raised-other v w (h .busy) ne) (λ n v b a e. up v (ℕ-discrete v w) (inv .waits n v b a e))
     where
@@ -262,7 +314,7 @@ module _ {h : Header} {ws : List Worker} {Ps : Pasts} {c m bs : List ℕ} (inv :
         sane : (p : ℕ) → Sane h′ (fresh p kind k)
         sane p = (omega arith, omega arith, omega arith, low, some, some, omega arith, omega arith, omega arith, omega arith, omega arith, omega arith)
 
-  pub starts : (Qs : Pasts) → ((v : ℕ) → v ≢ w → Grows (Ps v) (Qs v)) → Inv h′ (set ws w (begun kind k)) Qs c m bs
+  pub starts : (Qs : Pasts) → ((v : ℕ) → v ≢ w → Grows (Ps v) (Qs v)) → Inv h′ (set ws w (begun kind k)) Qs c m β
   starts Qs up = back opened lt (begun kind k) Qs up (inr b) (inr (λ e. not-idle (b .spot) (sym (b .place) ∙ e), raised-same w (h .busy) w32))
       (begun-key kind k) (begun-dummy kind k)
     where

@@ -1,4 +1,4 @@
--- A freshly prepared register keeps the invariant: node 1 is the chain, every other node is free, every record is idle.
+-- What preparing leaves keeps the invariant: node 1 is the chain, every other node is free, every record is idle.
 -- Assumes nothing.
 use mathlib.Core.Path.{_≡_, refl, sym, ap, _∙_}
 use mathlib.Core.Logic.{_≢_, _⊎_, inl, inr}
@@ -18,7 +18,7 @@ use Rattle.choice.proofs.Cases.{by-bool, both}
 use Rattle.choice.proofs.Telling.{clears-or, clears-lt}
 use Rattle.split.specs.Split.{reverse, dummy}
 use Rattle.split.proofs.Laws.{rev-of-zero}
-use Rattle.words.specs.Words.{SPLIT-KEY, LINK, STANDING, TAKEN, bucket}
+use Rattle.words.specs.Words.{SPLIT-KEY, LINK, STANDING, TAKEN}
 use Rattle.sets.specs.Sets.{bit}
 use Rattle.sets.proofs.Laws.{bit-zero}
 use Rattle.names.specs.Names.{numberOf}
@@ -27,7 +27,6 @@ use Rattle.names.specs.declared.Answer.the-variants.{Going}
 use Rattle.header.specs.declared.Header.{Header}
 use Rattle.header.specs.Header.{nodesOf, dummiesOf, limitBroken}
 use Rattle.header.specs.Rows as rows
-use Rattle.header.proofs.Rows.{limits}
 use Rattle.record.specs.declared.Worker.{Worker}
 use Rattle.record.specs.Worker.{idle}
 use Rattle.prepare.specs.declared.Limits.{Limits}
@@ -35,10 +34,10 @@ use Rattle.names.specs.declared.Verdict.{Verdict}
 use Rattle.prepare.specs.Prepare.{Kept, freshHeader, prepareVerdict, preparedBy, prepared}
 use Rattle.header.specs.Header.{isShort}
 use Rattle.crew.specs.Crew.{Left, tooFewFor, filled, idled, prepareAt}
-use Rattle.promises.specs.Fresh as fresh
 use Rattle.promises.proofs.Fresh.{prepare-fresh}
 use Rattle.register.specs.Chain.{key, link, standing}
-use Rattle.story.specs.Run.{State, stateOf, Run, state}
+use Rattle.story.specs.Run.{State, stateOf}
+use Rattle.story.specs.Trace.{Shared, workerOf, First}
 use Rattle.story.proofs.Facts.{Root}
 use Rattle.story.proofs.Hands.{idle-key, idle-dummy}
 use Rattle.story.proofs.Core.{Pasts, recordOf, Inv}
@@ -49,12 +48,12 @@ module _ (l : Limits) (h : Header) (ns bs : List ℕ) where
   Asked : Verdict → Type 0
   Asked v = preparedBy l h ns bs v .out .answer ≡ Going → (limitBroken (freshHeader l) ≡ false) × (isShort (freshHeader l) (length ns) (length bs) ≡ false)
 
-  asked : prepared l h ns bs .out .answer ≡ Going → (limitBroken (freshHeader l) ≡ false) × (isShort (freshHeader l) (length ns) (length bs) ≡ false)
+  pub asked : prepared l h ns bs .out .answer ≡ Going → (limitBroken (freshHeader l) ≡ false) × (isShort (freshHeader l) (length ns) (length bs) ≡ false)
   unfolding prepared prepareVerdict Asked
   asked = by-bool Asked (limitBroken (freshHeader l)) (λ _ e. absurd (omega (arith, ap numberOf e)))
       (λ a. by-bool Asked (isShort (freshHeader l) (length ns) (length bs)) (λ _ e. absurd (omega (arith, ap numberOf e))) (λ b _. (a, b)))
 
-  short : isShort (freshHeader l) (length ns) (length bs) ≡ false → (nodesOf (freshHeader l) * 3 ≤ length ns) × (l .m ≤ length bs)
+  pub short : isShort (freshHeader l) (length ns) (length bs) ≡ false → (nodesOf (freshHeader l) * 3 ≤ length ns) × (l .m ≤ length bs)
   unfolding isShort
   short e = clears-or (clears-lt (length ns) (nodesOf (freshHeader l) * 3)) (clears-lt (length bs) (l .m)) .sound e
 
@@ -83,13 +82,18 @@ unfolding dummy reverse
 dummy-zero = rev-of-zero 32
 
 -- ---- the invariant
-module _ (l : Limits) (ns bs : List ℕ) (k : Kept) (f : fresh.Fresh l ns bs k) (lim : rows.Limits (freshHeader l)) (long : nodesOf (freshHeader l) * 3 ≤ length ns) (room : l .m ≤ length bs)
-    (ws : List Worker) (enough : l .w ≤ length ws) (rest : (v : ℕ) → v < l .w → recordOf ws v ≡ idle) (Ps : Pasts) where
+module _ (l : Limits) (s : Shared) (f : First l s) (Ps : Pasts) where
+  abbrev lim : rows.Limits (freshHeader l)
+  lim = f .limits
+
+  abbrev rest : (v : ℕ) → v < l .w → workerOf s v ≡ idle
+  rest = f .rest
+
   abbrev N : ℕ
   N = nodesOf (freshHeader l)
 
   abbrev m : List ℕ
-  m = k .nodes
+  m = s .nodes
 
   one : 1 ≤ N
   one = omega (arith, lim .buckets .0)
@@ -117,14 +121,14 @@ module _ (l : Limits) (ns bs : List ℕ) (k : Kept) (f : fresh.Fresh l ns bs k) 
   at-one : {n : ℕ} → n ≡ 1 → standing m n ≡ TAKEN
   at-one e = rw e (f .first-taken)
 
-  pub fresh-core : Inv (freshHeader l) ws Ps (1 ∷ []) m (k .buckets)
+  fresh-core : Inv (freshHeader l) (s .workers) Ps (1 ∷ []) m (s .value)
   fresh-core = record {
     limits = lim;
     size = (omega arith, lim .buckets .0, (1, omega arith, refl));
     few = pow-pos (l .w);
-    long = enough;
+    long = f .enough;
     glob = record {
-      size = rw (f .nodes-length) long;
+      size = f .long;
       walk = record { is = refl; some = omega arith; low = omega arith; rest = rw (links 1 one) (omega arith) };
       zero = keys 1 one;
       fits = λ n i. rw (is-one i) one;
@@ -147,7 +151,6 @@ module _ (l : Limits) (ns bs : List ℕ) (k : Kept) (f : fresh.Fresh l ns bs k) 
     waits = λ n v b a e. absurd (waiting n v a e (cases n b));
     keyed = λ n b a s. absurd (lefts n a s (cases n b));
     exact = λ n i b. record { bucket = 0; real = omega (arith, lim .buckets .0); has = rw (is-one i) (keys 1 one ∙ sym dummy-zero) };
-    room = rw (f .buckets-length) room;
     root₀ = λ e. omega (arith, f .first-bucket);
     root = λ b lt ne. roots b lt ne (ℕ-discrete b 0);
   }
@@ -168,9 +171,12 @@ module _ (l : Limits) (ns bs : List ℕ) (k : Kept) (f : fresh.Fresh l ns bs k) 
       waiting n v a b (inl e) = omega (arith, at-one e)
       waiting n v a b (inr e) = omega (arith, bit-zero v, rw e at b)
 
-      roots : (b : ℕ) → b < l .m → bucket (k .buckets) b ≢ 0 → Dec (b ≡ 0) → Root (dummiesOf (freshHeader l)) (1 ∷ []) m b (bucket (k .buckets) b)
+      roots : (b : ℕ) → b < l .m → s .value b ≢ 0 → Dec (b ≡ 0) → Root (dummiesOf (freshHeader l)) (1 ∷ []) m b (s .value b)
       roots b lt ne (yes e) = rw (e, f .first-bucket) (record { on = here refl; sort = omega (arith, lim .buckets .0); has = keys 1 one ∙ sym dummy-zero })
       roots b lt ne (no z) = absurd (ne (f .bucket-words b lt z))
+
+  pub fresh-inv : InvOf s Ps (1 ∷ [])
+  fresh-inv = rw (f .header) fresh-core
 
 -- ---- a fresh state: what preparing left
 pub record Ready (l : Limits) (k : Kept) (s : State) : Type 0 where
@@ -217,21 +223,3 @@ module _ (l : Limits) (h : Header) (ws : List Worker) (ns bs : List ℕ) where
   pub is-ready : prepareAt l h ws ns bs .called .answer ≡ Going → Ready l made (stateOf (prepareAt l h ws ns bs))
   unfolding Readies
   is-ready = readies
-
-module _ (r : Run) where
-  abbrev pub kept : Kept
-  kept = prepared (r .limits) (r .lent .header) (r .lent .nodes) (r .lent .buckets)
-
-  pub ready : Ready (r .limits) kept (state r 0)
-  ready = is-ready (r .limits) (r .lent .header) (r .lent .workers) (r .lent .nodes) (r .lent .buckets) (r .fresh)
-
-  pub fresh-inv : (Ps : Pasts) → InvOf (state r 0) Ps (1 ∷ [])
-  fresh-inv Ps =
-      let a = asked (r .limits) (r .lent .header) (r .lent .nodes) (r .lent .buckets) (ready .going) in
-      let b = short (r .limits) (r .lent .header) (r .lent .nodes) (r .lent .buckets) (a .1) in
-      rw (ready .header, ready .nodes, ready .buckets)
-      (fresh-core (r .limits) (r .lent .nodes) (r .lent .buckets) kept (prepare-fresh (r .limits) (r .lent .header) (r .lent .nodes) (r .lent .buckets) (ready .going))
-      (limits (freshHeader (r .limits)) .sound (a .0)) (b .0) (b .1) (state r 0 .workers) (ready .enough) (ready .rest) Ps)
-
-  pub past-records : (v : ℕ) → r .limits .w ≤ v → recordOf (state r 0 .workers) v ≡ recordOf (r .lent .workers) v
-  past-records v b = leaves (r .limits) (r .lent .header) (r .lent .workers) (r .lent .nodes) (r .lent .buckets) v b (r .fresh)

@@ -15,7 +15,7 @@ use Rattle.header.specs.Header.{nodesOf, dummiesOf}
 use Rattle.record.specs.declared.Worker.{Worker}
 use Rattle.register.specs.Chain.{key, Registered}
 use Rattle.register.specs.Events.{Event, nothing, added, removed, adds, removes, all}
-use Rattle.story.specs.Run.{workerOf, left, Run, state, event, eventAt}
+use Rattle.story.specs.Trace.{workerOf, Trace, state, answerAt, eventAt}
 use Rattle.story.specs.Story.{tallied}
 use Rattle.story.proofs.Registers.{Change}
 use Rattle.story.proofs.Distinct.{without, Distinct, was-in, stays-in, still-distinct, gone, one-less, pigeonhole}
@@ -69,7 +69,7 @@ Limited nothing = Unit {0}
 Limited (added k) = k ≤ KEY-LIMIT
 Limited (removed k) = k ≤ KEY-LIMIT
 
-limited : (r : Run) (i : ℕ) → Limited (event (state r i) (r .call i))
+limited : (r : Trace) (i : ℕ) → Limited (eventAt r i)
 limited r i = by (made-at r i (good r i) .tale)
   where
     low : (v : ℕ) → v < state r i .header .w → workerOf (state r i) v .place ≢ IDLE → workerOf (state r i) v .key ≤ KEY-LIMIT
@@ -84,10 +84,10 @@ limited r i = by (made-at r i (good r i) .tale)
     by-event x a b (added k) t l = rw (t .3) l
     by-event x a b (removed k) t l = rw (t .3) l
 
-    by : Tale (state r i) (Past r i) (r .call i) (left (state r i) (r .call i)) (event (state r i) (r .call i)) → Limited (event (state r i) (r .call i))
+    by : Tale (state r i) (Past r i) (r .call i) (answerAt r i) (state r (suc i)) (eventAt r i) → Limited (eventAt r i)
     by (refused ew en lo hi hc) = rw en tt
     by (begins v kind k q l ew en ea hc xi) = rw en tt
-    by (goes v q l y ew ek ey nb tn ea ty) = by-event (workerOf (state r i) v) (tookAt (workerOf (state r i) v)) (tookAt y) (event (state r i) (r .call i)) tn (low v l nb)
+    by (goes v q l y ew ek ey nb tn ea ty) = by-event (workerOf (state r i) v) (tookAt (workerOf (state r i) v)) (tookAt y) (eventAt r i) tn (low v l nb)
     by (ends v q l ew en nb td ty) = rw en tt
 
 -- the list after one event, over any tables and any sums
@@ -132,27 +132,27 @@ listed a b ks up down (removed j) c l o = record {
 }
 
 -- inserts and deletes in effect in the first i calls
-abbrev pub additions : Run → ℕ → ℕ
+abbrev pub additions : Trace → ℕ → ℕ
 additions r i = tallied (adds all) (eventAt r) i
 
-abbrev pub removals : Run → ℕ → ℕ
+abbrev pub removals : Trace → ℕ → ℕ
 removals r i = tallied (removes all) (eventAt r) i
 
-pub record Listing (r : Run) (i : ℕ) : Type 0 where
+pub record Listing (r : Trace) (i : ℕ) : Type 0 where
   ks : List ℕ
   is : Listed (state r i .nodes) ks (additions r i) (removals r i)
 
-listing : (r : Run) (i : ℕ) → Listing r i
+listing : (r : Trace) (i : ℕ) → Listing r i
 listing r zero = record { ks = []; is = record { distinct = tt; there-all = λ k i. absurd (nobody i); all-there = λ k p q. absurd (none-yet r k q); total = refl } }
   where
     nobody : {k : ℕ} → In k [] → ⊥
     nobody i = List·Memᴰ·not-nil i
 listing r (suc i) =
     let o = listing r i in
-    record { ks = listBy (event (state r i) (r .call i)) (o .ks); is = listed (state r i .nodes) (state r (suc i) .nodes) (o .ks) (additions r i) (removals r i) (event (state r i) (r .call i)) (changes r i) (limited r i) (o .is) }
+    record { ks = listBy (eventAt r i) (o .ks); is = listed (state r i .nodes) (state r (suc i) .nodes) (o .ks) (additions r i) (removals r i) (eventAt r i) (changes r i) (limited r i) (o .is) }
 
 -- inserts in effect less deletes in effect: not below 0, and not above the nodes
-pub bounded : (r : Run) (i : ℕ) → (removals r i ≤ additions r i) × (additions r i ≤ removals r i + nodesOf (state r i .header))
+pub bounded : (r : Trace) (i : ℕ) → (removals r i ≤ additions r i) × (additions r i ≤ removals r i + nodesOf (state r i .header))
 bounded r i =
     let o = listing r i in
     let g = good r i in

@@ -25,4 +25,6 @@ pub mod Moments
 pub mod Answers
 pub mod Keys
 pub mod Counting
+pub mod Runs
+pub mod Pauses
 pub mod Contracts

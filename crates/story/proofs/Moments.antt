@@ -20,18 +20,18 @@ use Rattle.record.specs.declared.Worker.{Worker}
 use Rattle.record.specs.Worker.{idle, fresh, begun}
 use Rattle.register.specs.Chain.{key}
 use Rattle.register.specs.Events.{Event, nothing, added, removed, Says, yes-insert, yes-delete, yes-find}
-use Rattle.story.specs.Run.{State, workerOf, Call, start, step, left, answer, Run, state, event, eventAt}
+use Rattle.story.specs.Run.{Call, start, step}
+use Rattle.story.specs.Trace.{Shared, workerOf, First, Trace, state, answerAt, eventAt}
 use Rattle.story.proofs.Spans.{startsOf, began, owns, effects}
 use Rattle.story.proofs.Steps.{tookAt, Turned}
 use Rattle.story.proofs.Calls.{Tale, refused, begins, goes, ends}
-use Rattle.story.proofs.Fresh.{Ready, ready, kept as left-by}
 use Rattle.story.proofs.Theorem.{Past, good, made-at, alive}
 
 -- ---- what a call does to when an operation began and to how many events it had
 -- the call starts no operation of w
-pub still : (r : Run) (i w : ℕ) → startsOf w (r .call i) (answer (state r i) (r .call i)) ≡ false
-    → (began r w (suc i) ≡ began r w i) × (effects r w (suc i) ≡ owns w (r .call i) (event (state r i) (r .call i)) + effects r w i)
-still r i w e = (pick-false _ i (began r w i) e, pick-false _ 0 (owns w (r .call i) (event (state r i) (r .call i)) + effects r w i) e)
+pub still : (r : Trace) (i w : ℕ) → startsOf w (r .call i) (answerAt r i) ≡ false
+    → (began r w (suc i) ≡ began r w i) × (effects r w (suc i) ≡ owns w (r .call i) (eventAt r i) + effects r w i)
+still r i w e = (pick-false _ i (began r w i) e, pick-false _ 0 (owns w (r .call i) (eventAt r i) + effects r w i) e)
 
 no-start : (w : ℕ) (c : Call) (a : Answer) → 10 ≤ numberOf a → startsOf w c a ≡ false
 no-start w (start v kind k) a n = rw (ne-eqb (numberOf a) 0 (λ e. omega arith)) (and-no (eqb v w))
@@ -81,24 +81,24 @@ says-effect yes-delete e = omega arith
 says-effect (yes-find n) e = n
 
 -- ---- the operation in progress
-pub record EventIn (r : Run) (i w kind k : ℕ) : Type 0 where
+pub record EventIn (r : Trace) (i w kind k : ℕ) : Type 0 where
   pub call : ℕ
   pub from : began r w i < call
   pub upto : call < i
   pub own : r .call call ≡ step w
   pub what : Says k ⊥ kind Yes (eventAt r call)
 
-pub record Op (r : Run) (i w : ℕ) (x : Worker) : Type 0 where
+pub record Op (r : Trace) (i w : ℕ) (x : Worker) : Type 0 where
   pub started : r .call (began r w i) ≡ start w (x .kind) (x .key)
-  pub going : answer (state r (began r w i)) (r .call (began r w i)) ≡ Going
+  pub going : answerAt r (began r w i) ≡ Going
   pub flag : ((tookAt x ≡ true) × (effects r w i ≡ 1) × EventIn r i w (x .kind) (x .key)) ⊎ ((tookAt x ≡ false) × (effects r w i ≡ 0))
 
-pub record Ops (r : Run) (i w : ℕ) (x : Worker) : Type 0 where
+pub record Ops (r : Trace) (i w : ℕ) (x : Worker) : Type 0 where
   pub few : effects r w i ≤ 1
   pub busy : x .place ≢ IDLE → Op r i w x
 
 -- a call that does not touch it
-same-op : (r : Run) (i w : ℕ) (x : Worker) → began r w (suc i) ≡ began r w i → effects r w (suc i) ≡ effects r w i → Ops r i w x → Ops r (suc i) w x
+same-op : (r : Trace) (i w : ℕ) (x : Worker) → began r w (suc i) ≡ began r w i → effects r w (suc i) ≡ effects r w i → Ops r i w x → Ops r (suc i) w x
 same-op r i w x eb ee o = record {
   few = rw ee (o .few);
   busy = λ ne. record {
@@ -117,15 +117,15 @@ begun-kind : (kind k : ℕ) → (begun kind k .kind ≡ kind) × (begun kind k .
 unfolding begun
 begun-kind kind k = (refl, refl)
 
-module _ (r : Run) (i w : ℕ) (o : Ops r i w (workerOf (state r i) w)) (lt : w < state r i .header .w) where
-  abbrev s : State
+module _ (r : Trace) (i w : ℕ) (o : Ops r i w (workerOf (state r i) w)) (lt : w < state r i .header .w) where
+  abbrev s : Shared
   s = state r i
 
   abbrev x : Worker
   x = workerOf s w
 
   abbrev ev : Event
-  ev = event s (r .call i)
+  ev = eventAt r i
 
   here-is : (y : Worker) → state r (suc i) .workers ≡ set (s .workers) w y → workerOf (state r (suc i)) w ≡ y
   here-is y e = rw e (getD-set-same (s .workers) w y idle (omega (arith, good r i .inv .long)))
@@ -140,7 +140,7 @@ module _ (r : Run) (i w : ℕ) (o : Ops r i w (workerOf (state r i) w)) (lt : w 
       rw (there-is v y ne q) (same-op r i w x (k .0) (k .1 ∙ none-more none) o)
     where
       none : owns w (r .call i) ev ≡ 0
-      none = rw e (owns-other v w (event s (step v)) ne)
+      none = rw e (owns-other v w ev ne)
 
   -- the worker's own step
   module _ (y : Worker) (ec : r .call i ≡ step w) (ew : state r (suc i) .workers ≡ set (s .workers) w y) (ek : y .kind ≡ x .kind) (ey : y .key ≡ x .key) (nb : x .place ≢ IDLE) where
@@ -189,16 +189,16 @@ module _ (r : Run) (i w : ℕ) (o : Ops r i w (workerOf (state r i) w)) (lt : w 
     own-step : Turned x (tookAt x) (tookAt y) ev → Ops r (suc i) w (workerOf (state r (suc i)) w)
     own-step t = rw (here-is y ew) (by-event ev refl t)
 
-  ops-suc : Tale s (Past r i) (r .call i) (left s (r .call i)) ev → Ops r (suc i) w (workerOf (state r (suc i)) w)
+  ops-suc : Tale s (Past r i) (r .call i) (answerAt r i) (state r (suc i)) ev → Ops r (suc i) w (workerOf (state r (suc i)) w)
   ops-suc (refused ew en lo hi hc) =
-      let k = still r i w (no-start w (r .call i) (answer s (r .call i)) lo) in
+      let k = still r i w (no-start w (r .call i) (answerAt r i) lo) in
       subst (λ (y : Worker). Ops r (suc i) w y) (sym (ap (λ (ws : List Worker). getD ws w idle) ew))
       (same-op r i w x (k .0) (k .1 ∙ none-more (ap (owns w (r .call i)) en ∙ owns-nothing w (r .call i))) o)
   ops-suc (begins v kind k ec l ew en ea hc xi) = by (ℕ-discrete v w)
     where
       by : Dec (v ≡ w) → Ops r (suc i) w (workerOf (state r (suc i)) w)
       by (yes q) =
-          let st : startsOf w (r .call i) (answer s (r .call i)) ≡ true = rw (ea, ec, q, eq-eqb w w refl) refl in
+          let st : startsOf w (r .call i) (answerAt r i) ≡ true = rw (ea, ec, q, eq-eqb w w refl) refl in
           let eb : began r w (suc i) ≡ i = pick-true _ i (began r w i) st in
           let ee : effects r w (suc i) ≡ 0 = pick-true _ 0 (owns w (r .call i) ev + effects r w i) st in
           rw (here-is (begun kind k) (rw q at ew)) (record {
@@ -206,7 +206,7 @@ module _ (r : Run) (i w : ℕ) (o : Ops r i w (workerOf (state r i) w)) (lt : w 
             busy = λ _. record { started = rw (eb, begun-kind kind k .0, begun-kind kind k .1) (rw q at ec); going = rw eb ea; flag = inr (begun-took kind k, ee) };
           })
       by (no ne) =
-          let st : startsOf w (r .call i) (answer s (r .call i)) ≡ false = rw (ec, ne-eqb v w ne) refl in
+          let st : startsOf w (r .call i) (answerAt r i) ≡ false = rw (ec, ne-eqb v w ne) refl in
           let k′ = still r i w st in
           rw (there-is v (begun kind k) ne ew) (same-op r i w x (k′ .0) (k′ .1 ∙ none-more (ap (owns w (r .call i)) en ∙ owns-nothing w (r .call i))) o)
   ops-suc (goes v ec l y ew ek ey nb tn ea ty) = by (ℕ-discrete v w)
@@ -225,11 +225,11 @@ module _ (r : Run) (i w : ℕ) (o : Ops r i w (workerOf (state r i) w)) (lt : w 
           })
       by (no ne) = other-step v idle ne ec ew
 
-pub ops : (r : Run) (i w : ℕ) → w < state r i .header .w → Ops r i w (workerOf (state r i) w)
+pub ops : (r : Trace) (i w : ℕ) → w < state r i .header .w → Ops r i w (workerOf (state r i) w)
 ops r zero w lt = record { few = omega arith; busy = λ ne. absurd (ne (ap (λ (x : Worker). x .place) (p .rest w (rw (p .header) at lt)))) }
   where
-    p : Ready (r .limits) (left-by r) (state r 0)
-    p = ready r
+    p : First (r .limits) (state r 0)
+    p = r .first
 ops r (suc i) w lt =
     let m = made-at r i (good r i) in
     let l : w < state r i .header .w = omega (arith, m .sizes .2) in

@@ -3,35 +3,25 @@
 use mathlib.Core.Path.{_≡_, refl, sym, ap, _∙_}
 use mathlib.Core.Logic.{⊎-elim}
 use mathlib.Core.List.{List, List·Memᴰ as In}
-use Prim.Native.Nat.{ℕ, zero, suc, _*_, _≤_, _<_}
+use Prim.Native.Nat.{ℕ, zero, suc, _≤_, _<_}
 use native.Mathlib.Omega.{arith}
 use native.Mathlib.Decide.{ℕ-discrete}
-use lib.Dec.{ltb}
-use lib.ListN.{length, getD, set}
+use lib.ListN.{getD, set}
 use lib.Seq.{getD-set-other}
-use Rattle.choice.proofs.Cases.{by-bool}
 use Rattle.words.specs.Words.{TAKEN}
-use Rattle.header.specs.declared.Header.{Header}
 use Rattle.header.specs.Header.{nodesOf, dummiesOf}
 use Rattle.record.specs.declared.Worker.{Worker}
 use Rattle.record.specs.Worker.{idle, begun, heldKey, heldDummy}
-use Rattle.prepare.specs.declared.Limits.{Limits}
-use Rattle.prepare.specs.Prepare.{Kept, freshHeader}
-use Rattle.promises.specs.Fresh as F
-use Rattle.crew.specs.Crew.{Left, turnAt, startAt, stepAt}
-use Rattle.promises.proofs.Fresh.{prepare-fresh}
-use Rattle.promises.proofs.WritesOnly.{beyond-kept}
 use Rattle.register.specs.Chain.{standing, On}
-use Rattle.story.specs.Run.{State, workerOf, Call, start, step, left, Run, state, event}
-use Rattle.story.specs.Story.{Where, free, chained, held, waiting, At, OnePlace, PastKept}
+use Rattle.story.specs.Story.{Where, free, chained, held, waiting}
+use Rattle.story.specs.Trace.{Shared, workerOf, Trace, state, answerAt, eventAt, At, OnePlace, PastKept}
 use Rattle.story.proofs.Chain.{on-in, in-on}
 use Rattle.story.proofs.Facts.{Held}
 use Rattle.story.proofs.Core.{Pasts, fact-key, fact-dummy}
 use Rattle.story.proofs.Calls.{InvOf, Tale, refused, begins, goes, ends}
-use Rattle.story.proofs.Fresh.{ready, kept, past-records}
 use Rattle.story.proofs.Theorem.{Past, good, made-at}
 
-module _ (s : State) (Ps : Pasts) (c : List ℕ) (inv : InvOf s Ps c) (n : ℕ) (low : 1 ≤ n) (high : n ≤ nodesOf (s .header)) where
+module _ (s : Shared) (Ps : Pasts) (c : List ℕ) (inv : InvOf s Ps c) (n : ℕ) (low : 1 ≤ n) (high : n ≤ nodesOf (s .header)) where
   abbrev W : ℕ
   W = s .header .w
 
@@ -98,55 +88,22 @@ module _ (s : State) (Ps : Pasts) (c : List ℕ) (inv : InvOf s Ps c) (n : ℕ) 
 pub one-place : OnePlace
 one-place r i n low high = let g = good r i in exactly-one (state r i) (Past r i) (g .chain) (g .inv) n low high
 
--- ---- words past the tables' own
-step-past : (s : State) (w n : ℕ)
-    → (nodesOf (s .header) * 3 ≤ n → getD (left s (step w) .nodes) n 0 ≡ getD (s .nodes) n 0) × (s .header .m ≤ n → getD (left s (step w) .buckets) n 0 ≡ getD (s .buckets) n 0)
-unfolding stepAt
-step-past s w n =
-    by-bool (λ (l : Left). (nodesOf (s .header) * 3 ≤ n → getD (l .nodes) n 0 ≡ getD (s .nodes) n 0) × (s .header .m ≤ n → getD (l .buckets) n 0 ≡ getD (s .buckets) n 0))
-    (ltb (length (s .workers)) (s .header .w)) (λ _. (λ _. refl, λ _. refl))
-    (λ _. let k = beyond-kept (turnAt (s .header) (s .workers) w) (s .nodes) (s .buckets) in (k .nodes n, k .buckets n))
-
-start-past : (s : State) (w kind key : ℕ) → (left s (start w kind key) .nodes ≡ s .nodes) × (left s (start w kind key) .buckets ≡ s .buckets)
-unfolding startAt
-start-past s w kind key =
-    by-bool (λ (l : Left). (l .nodes ≡ s .nodes) × (l .buckets ≡ s .buckets)) (ltb (length (s .workers)) (s .header .w)) (λ _. (refl, refl)) (λ _. (refl, refl))
-
-call-past : (s : State) (c : Call) (n : ℕ)
-    → (nodesOf (s .header) * 3 ≤ n → getD (left s c .nodes) n 0 ≡ getD (s .nodes) n 0) × (s .header .m ≤ n → getD (left s c .buckets) n 0 ≡ getD (s .buckets) n 0)
-call-past s (step w) n = step-past s w n
-call-past s (start w kind key) n = let p = start-past s w kind key in (λ _. rw (p .0), λ _. rw (p .1))
-
--- preparing touches none of them
-fresh-past : (l : Limits) (ns bs : List ℕ) (k : Kept) → F.Fresh l ns bs k → (h : Header) (ms cs : List ℕ) → h ≡ freshHeader l → ms ≡ k .nodes → cs ≡ k .buckets → (n : ℕ)
-    → (nodesOf h * 3 ≤ n → getD ms n 0 ≡ getD ns n 0) × (h .m ≤ n → getD cs n 0 ≡ getD bs n 0)
-fresh-past l ns bs k f h ms cs eh em ec n = rw (eh, em, ec) (f .past-nodes n, f .past-buckets n)
-
 -- a call of worker w changes no record but that of w, which is below W
-call-record : (r : Run) (i n : ℕ) → state r i .header .w ≤ n → workerOf (state r (suc i)) n ≡ workerOf (state r i) n
+pub call-record : (r : Trace) (i n : ℕ) → state r i .header .w ≤ n → workerOf (state r (suc i)) n ≡ workerOf (state r i) n
 call-record r i n b = by (made-at r i (good r i) .tale)
   where
     other : (w : ℕ) (y : Worker) → w < state r i .header .w → state r (suc i) .workers ≡ set (state r i .workers) w y → workerOf (state r (suc i)) n ≡ workerOf (state r i) n
     other w y l e = rw e (getD-set-other (state r i .workers) w n y idle (λ q. omega arith))
 
-    by : Tale (state r i) (Past r i) (r .call i) (left (state r i) (r .call i)) (event (state r i) (r .call i)) → workerOf (state r (suc i)) n ≡ workerOf (state r i) n
+    by : Tale (state r i) (Past r i) (r .call i) (answerAt r i) (state r (suc i)) (eventAt r i) → workerOf (state r (suc i)) n ≡ workerOf (state r i) n
     by (refused ew en lo hi hc) = ap (λ (ws : List Worker). getD ws n idle) ew
     by (begins w kind k q l ew en ea hc xi) = other w (begun kind k) l ew
     by (goes w q l y ew ek ey nb tn ea ty) = other w y l ew
     by (ends w q l ew en nb td ty) = other w idle l ew
 
 pub past-kept : PastKept
-past-kept r zero n =
-    let p = ready r in
-    let q = fresh-past (r .limits) (r .lent .nodes) (r .lent .buckets) (kept r) (prepare-fresh (r .limits) (r .lent .header) (r .lent .nodes) (r .lent .buckets) (p .going))
-    (state r 0 .header) (state r 0 .nodes) (state r 0 .buckets) (p .header) (p .nodes) (p .buckets) n in
-    let e : state r 0 .header .w ≡ r .limits .w = ap (λ (h : Header). h .w) (p .header) in
-    (q .0, q .1, λ b. past-records r n (omega arith))
-past-kept r (suc i) n =
+past-kept r zero n b = refl
+past-kept r (suc i) n b =
     let s = made-at r i (good r i) .sizes in
-    let c = call-past (state r i) (r .call i) n in
-    let p = past-kept r i n in (
-      λ b. let b′ : nodesOf (state r i .header) * 3 ≤ n = omega arith in c .0 b′ ∙ p .0 b′,
-      λ b. let b′ : state r i .header .m ≤ n = omega arith in c .1 b′ ∙ p .1 b′,
-      λ b. let b′ : state r i .header .w ≤ n = omega arith in call-record r i n b′ ∙ p .2 b′,
-    )
+    let b′ : state r i .header .w ≤ n = omega arith in
+    call-record r i n b′ ∙ past-kept r i n b′

@@ -88,7 +88,7 @@ key-for : (x : Worker) → x .errand ≢ DUMMY → heldFor x ≡ x .held
 unfolding heldFor
 key-for x ne = by-eq (λ (v : ℕ). v ≡ x .held) (x .errand) DUMMY (λ e. absurd (ne e)) (λ _. refl)
 
-module _ {h : Header} {ws : List Worker} {Ps Qs : Pasts} {w : ℕ} {c m bs : List ℕ} (z : Ctx h ws Ps Qs w c m bs) where
+module _ {h : Header} {ws : List Worker} {Ps Qs : Pasts} {w : ℕ} {c m : List ℕ} {β : ℕ → ℕ} (z : Ctx h ws Ps Qs w c m β) where
   abbrev x : Worker
   x = me z
 
@@ -354,7 +354,7 @@ module _ {h : Header} {ws : List Worker} {Ps Qs : Pasts} {w : ℕ} {c m bs : Lis
         is-even = dummy-is-even (x .making) (omega (arith, s .sane .5, z .inv .limits .buckets .1))
 
         done : link m (x .prev) ≡ x .cur * 2 → Good z (took F.l2 (x .errand)) (Going (to B8 x) (Place n (x .cur) (x .prev)))
-        done e = subst (λ (v : Event). Went z (took F.l2 (x .errand)) (to B8 x) h p bs v) (sym (pick-false (eqb (x .errand) KEY) (added (x .key)) nothing (ne-eqb (x .errand) KEY (λ r. omega arith)))) went
+        done e = subst (λ (v : Event). Went z (took F.l2 (x .errand)) (to B8 x) h p β v) (sym (pick-false (eqb (x .errand) KEY) (added (x .key)) nothing (ne-eqb (x .errand) KEY (λ r. omega arith)))) went
           where
             i : In (x .prev) c
             i = on-prev n 0 D (for-dummy q) hh (omega arith) (inr refl) e
@@ -371,7 +371,7 @@ module _ {h : Header} {ws : List Worker} {Ps Qs : Pasts} {w : ℕ} {c m bs : Lis
             pk : (j : ℕ) → key p j ≡ key m j
             pk = A.place-key-is (core z) n (x .cur) 0 D hh (omega arith) (s .sane .8) (x .prev) (dummy (x .making)) i e (s .dum-has some) low high (λ _. record { bucket = x .making; real = s .sane .5; has = refl }) (λ l. absurd (omega (arith, hh .high)))
 
-            went : Went z (took F.l2 (x .errand)) (to B8 x) h p bs nothing
+            went : Went z (took F.l2 (x .errand)) (to B8 x) h p β nothing
             went = record {
               chain = putAfter i n;
               next = record {
@@ -421,7 +421,7 @@ module _ {h : Header} {ws : List Worker} {Ps Qs : Pasts} {w : ℕ} {c m bs : Lis
         most = want-key (x .errand) (x .making) (x .key) nd
 
         done : link m (x .prev) ≡ x .cur * 2 → Good z (took F.l2 (x .errand)) (Going (to I8 (withHeld 0 x)) (Place n (x .cur) (x .prev)))
-        done e = subst (λ (v : Event). Went z (took F.l2 (x .errand)) (to I8 (withHeld 0 x)) h p bs v) (sym (pick-true (eqb (x .errand) KEY) (added (x .key)) nothing (eq-eqb (x .errand) KEY q))) went
+        done e = subst (λ (v : Event). Went z (took F.l2 (x .errand)) (to I8 (withHeld 0 x)) h p β v) (sym (pick-true (eqb (x .errand) KEY) (added (x .key)) nothing (eq-eqb (x .errand) KEY q))) went
           where
             i : In (x .prev) c
             i = on-prev n D N for-key hh (omega arith) (inl refl) e
@@ -435,7 +435,7 @@ module _ {h : Header} {ws : List Worker} {Ps Qs : Pasts} {w : ℕ} {c m bs : Lis
             p : List ℕ
             p = put (put m n LINK (linkTo (x .cur) false)) (x .prev) LINK (linkTo n false)
 
-            went : Went z (took F.l2 (x .errand)) (to I8 (withHeld 0 x)) h p bs (added (x .key))
+            went : Went z (took F.l2 (x .errand)) (to I8 (withHeld 0 x)) h p β (added (x .key))
             went = record {
               chain = putAfter i n;
               next = record {

@@ -29,6 +29,7 @@ use Rattle.moves.specs.Moves.{notFound, foundKey, found, comes, f1, f2, judged,
 use Rattle.register.specs.Chain.{key, link, after, mark}
 use Rattle.register.specs.Events.{nothing}
 use Rattle.story.proofs.Memory.{key-of-standing}
+use Rattle.story.specs.Trace.{ticked}
 use Rattle.story.proofs.Chain.{cutAfter, succ-in}
 use Rattle.story.proofs.Facts as F
 use Rattle.story.proofs.Facts.{Prot, Held, Glob, forKey, forDummy, forExtra, AimOf, Start, Beyond, Root, Sane, Searches, Passes, wantBy, inHand, sought, Later}
@@ -37,7 +38,7 @@ use Rattle.story.proofs.Core.{Pasts, Core}
 use Rattle.story.proofs.Effects.{same, live-on, prot-fits, prot-some, next-fits}
 use Rattle.story.proofs.Registers.{Same, unmoved, gap, on, dummy-is-even}
 use Rattle.story.proofs.Acts.{free-dummy, free-same, unlink-later, unlink-prev, unlink-same, unlinks}
-use Rattle.story.proofs.Steps.{took, ticked, Ctx, me, core, Went, Present, Absent, Stands, looks, Told, Finished, Good, over, past, upon, seen, sound-link, want-is, even-sort}
+use Rattle.story.proofs.Steps.{took, Ctx, me, core, Went, Present, Absent, Stands, looks, Told, Finished, Good, over, past, upon, seen, sound-link, want-is, even-sort}
 
 -- the wanted split key, by errand
 pub want-key : (e a k : ℕ) → e ≢ DUMMY → F.want e a k ≡ regular k
@@ -70,7 +71,7 @@ or-none : (a b : Bool) → (a || b) ≡ false → b ≡ false
 or-none true b q = absurd (true≢false q)
 or-none false b q = q
 
-module _ {h : Header} {ws : List Worker} {Ps Qs : Pasts} {w : ℕ} {c m bs : List ℕ} (z : Ctx h ws Ps Qs w c m bs) (p₀ : F.Spot) (l : Stands z p₀)
+module _ {h : Header} {ws : List Worker} {Ps Qs : Pasts} {w : ℕ} {c m : List ℕ} {β : ℕ → ℕ} (z : Ctx h ws Ps Qs w c m β) (p₀ : F.Spot) (l : Stands z p₀)
     (hand : heldKey (me z) ≡ inHand (me z)) (dum : heldDummy (me z) ≡ sought (me z)) where
   abbrev x : Worker
   x = me z
@@ -92,12 +93,12 @@ module _ {h : Header} {ws : List Worker} {Ps Qs : Pasts} {w : ℕ} {c m bs : Lis
 
   -- the nodes after a step's write, on whose chain the search goes on
   record Onward (e : Effect) (c′ m′ : List ℕ) : Type 0 where
-    rest : Core h ws Ps w (heldKey x) (heldDummy x) c′ m′ bs
+    rest : Core h ws Ps w (heldKey x) (heldDummy x) c′ m′ β
     key-is : heldKey x ≢ 0 → key m′ (heldKey x) ≡ regular (x .key)
     dum-is : heldDummy x ≢ 0 → key m′ (heldDummy x) ≡ dummy (x .making)
     unchanged : (j : ℕ) → Same m m′ j
-    went : (y : Worker) → Went z tk y h m′ bs nothing → Good z tk (Going y e)
-    finished : (a : Answer) → Finished z tk a h m′ bs nothing → Good z tk (Ended a e)
+    went : (y : Worker) → Went z tk y h m′ β nothing → Good z tk (Going y e)
+    finished : (a : Answer) → Finished z tk a h m′ β nothing → Good z tk (Ended a e)
 
   still : Onward Nothing c m
   still = record { rest = core z; key-is = l .key-has; dum-is = l .dum-has; unchanged = unmoved; went = λ y q. q; finished = λ a q. q }
@@ -385,7 +386,7 @@ module _ {h : Header} {ws : List Worker} {Ps Qs : Pasts} {w : ℕ} {c m bs : Lis
           later : Later D N w 0 c m (cutAfter i) m′
           later = unlink-later (core z) (x .prev) (x .cur) (x .next) i e some (b .2) w (z .busy)
 
-          core′ : Core h ws Ps w (heldKey x) (heldDummy x) (cutAfter i) m′ bs
+          core′ : Core h ws Ps w (heldKey x) (heldDummy x) (cutAfter i) m′ β
           core′ = unlinks (core z) (x .prev) (x .cur) (x .next) i e some (b .2)
 
           on′ : In (x .prev) (cutAfter i) × (after m′ (x .prev) ≡ x .next)

@@ -33,16 +33,17 @@ denied {t = false} tells f = refl
 none-of : (a b : Bool) → a ≡ false → b ≡ false → a || b ≡ false
 none-of a b p q = rw (p, q)
 
-module _ {h : Header} {ws : List Worker} {Ps : Pasts} {w k d : ℕ} {c m bs : List ℕ} (core : Core h ws Ps w k d c m bs) where
+module _ {h : Header} {ws : List Worker} {Ps : Pasts} {w k d : ℕ} {c m : List ℕ} {β : ℕ → ℕ} (core : Core h ws Ps w k d c m β) where
   pub header-sound : headerDamaged h ≡ false
   header-sound = denied (header-damaged h) (⊎-elim (λ f. f (core .limits)) (⊎-elim (λ f. f (core .size)) far))
     where
       far : BusyBeyond h → ⊥
       far b = omega (arith, bit-far (b .0) (h .busy) (omega (arith, core .few, pow-mono {i = h .w} {j = b .0} (b .1))), b .2)
 
-  pub long-enough : isShort h (length m) (length bs) ≡ false
+  -- nor 11, where the buckets are all there
+  pub long-enough : isShort h (length m) (h .m) ≡ false
   unfolding isShort
-  long-enough = none-of (ltb (length m) (nodesOf h * 3)) (ltb (length bs) (h .m)) (le-ltb (length m) (nodesOf h * 3) (core .glob .size)) (le-ltb (length bs) (h .m) (core .room))
+  long-enough = none-of (ltb (length m) (nodesOf h * 3)) (ltb (h .m) (h .m)) (le-ltb (length m) (nodesOf h * 3) (core .glob .size)) (le-ltb (h .m) (h .m) (omega arith))
 
 place-le : (p : Spot) → number p ≤ D6
 place-le i1 = omega arith

@@ -7,7 +7,8 @@ use Rattle.choice.specs.Choice.{pick}
 use Rattle.names.specs.Names.{numberOf}
 use Rattle.names.specs.declared.Answer.{Answer}
 use Rattle.register.specs.Events.{Event, nothing, added, removed}
-use Rattle.story.specs.Run.{Call, start, step, Run, answerAt, eventAt}
+use Rattle.story.specs.Run.{Call, start, step}
+use Rattle.story.specs.Trace.{Trace, answerAt, eventAt}
 
 -- the call starts an operation of worker w
 abbrev pub startsOf : ℕ → Call → Answer → Bool
@@ -15,7 +16,7 @@ startsOf w (start v kind key) a = eqb v w && eqb (numberOf a) 0
 startsOf w (step v) a = false
 
 -- the last call before call i that started an operation of worker w
-abbrev pub began : Run → ℕ → ℕ → ℕ
+abbrev pub began : Trace → ℕ → ℕ → ℕ
 began r w zero = 0
 began r w (suc i) = pick (startsOf w (r .call i) (answerAt r i)) i (began r w i)
 
@@ -27,6 +28,6 @@ owns w (step v) (added k) = pick (eqb v w) 1 0
 owns w (step v) (removed k) = pick (eqb v w) 1 0
 
 -- how many events the last operation of worker w had before call i
-abbrev pub effects : Run → ℕ → ℕ → ℕ
+abbrev pub effects : Trace → ℕ → ℕ → ℕ
 effects r w zero = 0
 effects r w (suc i) = pick (startsOf w (r .call i) (answerAt r i)) 0 (owns w (r .call i) (eventAt r i) + effects r w i)

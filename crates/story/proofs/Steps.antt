@@ -19,25 +19,25 @@ use Rattle.names.specs.declared.Answer.the-variants.{Yes, No}
 use Rattle.header.specs.declared.Header.{Header}
 use Rattle.header.specs.Header.{nodesOf, busied}
 use Rattle.record.specs.declared.Worker.{Worker}
-use Rattle.record.specs.Fields.{withSteps}
 use Rattle.record.specs.Worker.{idle, within, heldKey, heldDummy}
 use Rattle.moves.specs.declared.Seen.{Seen}
 use Rattle.acts.specs.declared.Effect.the-variants.{Nothing}
 use Rattle.acts.specs.declared.Move.{Move}
 use Rattle.acts.specs.declared.Move.the-variants.{Damaged, Going, Ended}
 use Rattle.moves.specs.Moves.{badLink, wantOf, on}
-use Rattle.writes.specs.Writes.{nodesAfter, bucketsAfter, headerAfter}
-use Rattle.writes.specs.Carry.{tick, closedBy}
+use Rattle.writes.specs.Writes.{nodesAfter, headerAfter, storedBy}
+use Rattle.writes.specs.Carry.{closedBy}
 use Rattle.register.specs.Step.{closed}
 use Rattle.crew.specs.Crew.{turn}
 use Rattle.register.specs.Chain.{key, link, after, Registered}
 use Rattle.register.specs.Events.{Event, nothing, added, removed, written}
+use Rattle.story.specs.Trace.{ticked}
 use Rattle.story.proofs.Registers.{Same, Change, unmoved}
 use Rattle.story.proofs.Facts.{Glob, Spot, i1, sz, tb, b2, b4, f1, f2, f3, f4, l2, b8, i8, i9, i10, d4a, d4b, d6, number, At, Sane, wantBy, keyOf, dumOf, Busy}
 use Rattle.story.proofs.Stable.{Grows}
 use Rattle.story.proofs.Hands.{key-is, dummy-is}
 use Rattle.story.proofs.Core.{Pasts, recordOf, not-idle, Core, Inv, aside, back}
-use Rattle.story.proofs.Ends.{headed, ends, ends-same}
+use Rattle.story.proofs.Ends.{headed, valued, ends, ends-same}
 
 -- "took effect", by place and errand
 abbrev pub took : Spot → ℕ → Bool
@@ -88,9 +88,6 @@ Turned x before after nothing = after ≡ before
 Turned x before after (added k) = (before ≡ false) × (after ≡ true) × (x .kind ≡ INSERT) × (k ≡ x .key)
 Turned x before after (removed k) = (before ≡ false) × (after ≡ true) × (x .kind ≡ DELETE) × (k ≡ x .key)
 
-abbrev pub ticked : Worker → Worker
-ticked y = withSteps (tick (y .steps)) y
-
 -- at an own step, now or before, the key was registered; or it was not
 abbrev pub Presently : List ℕ → (ℕ → ℕ → ℕ → Type 0) → ℕ → Type 0
 Presently m P k = Registered m k ⊎ ((n : ℕ) × (nx : ℕ) × P n nx (regular k))
@@ -112,26 +109,26 @@ pub told-neither : {m : List ℕ} {P : ℕ → ℕ → ℕ → Type 0} {x : Work
 told-neither ny nn b = record { yes = λ a k. absurd (ny a); no-there = λ a k. absurd (nn a); no-absent = λ a k. absurd (nn a); done = λ a k. absurd (ny a); undone = λ a. refl; below = b }
 
 -- a step of worker w: the invariant before it, and what is seen of the past afterwards
-pub record Ctx (h : Header) (ws : List Worker) (Ps Qs : Pasts) (w : ℕ) (c m bs : List ℕ) : Type 0 where
-  pub inv : Inv h ws Ps c m bs
+pub record Ctx (h : Header) (ws : List Worker) (Ps Qs : Pasts) (w : ℕ) (c m : List ℕ) (β : ℕ → ℕ) : Type 0 where
+  pub inv : Inv h ws Ps c m β
   pub lt : w < h .w
   pub busy : bit w (h .busy) ≡ 1
   pub others : (v : ℕ) → v ≢ w → Grows (Ps v) (Qs v)
   pub mine : Grows (Ps w) (Qs w)
   pub see : (n nx : ℕ) → In n c → link m n ≡ nx * 2 → Qs w n nx (key m n)
 
-module _ {h : Header} {ws : List Worker} {Ps Qs : Pasts} {w : ℕ} {c m bs : List ℕ} (z : Ctx h ws Ps Qs w c m bs) where
+module _ {h : Header} {ws : List Worker} {Ps Qs : Pasts} {w : ℕ} {c m : List ℕ} {β : ℕ → ℕ} (z : Ctx h ws Ps Qs w c m β) where
   abbrev pub me : Worker
   me = recordOf ws w
 
-  pub core : Core h ws Ps w (heldKey me) (heldDummy me) c m bs
+  pub core : Core h ws Ps w (heldKey me) (heldDummy me) c m β
   core = aside (z .inv) w (z .lt)
 
   -- the worker's own part of what follows a step that goes on
-  pub record Next (h′ : Header) (c′ m′ bs′ : List ℕ) (y : Worker) : Type 0 where
+  pub record Next (h′ : Header) (c′ m′ : List ℕ) (β′ : ℕ → ℕ) (y : Worker) : Type 0 where
     pub k : ℕ
     pub d : ℕ
-    pub rest : Core h′ ws Ps w k d c′ m′ bs′
+    pub rest : Core h′ ws Ps w k d c′ m′ β′
     pub spot : Spot
     pub place : y .place ≡ number spot
     pub sane : Sane h′ y
@@ -141,9 +138,9 @@ module _ {h : Header} {ws : List Worker} {Ps Qs : Pasts} {w : ℕ} {c m bs : Lis
     pub dum-has : d ≢ 0 → key m′ d ≡ dummy (y .making)
     pub at : At h′ w c′ m′ (Qs w) spot y
 
-  pub record Went (tk : Bool) (y : Worker) (h′ : Header) (m′ bs′ : List ℕ) (ev : Event) : Type 0 where
+  pub record Went (tk : Bool) (y : Worker) (h′ : Header) (m′ : List ℕ) (β′ : ℕ → ℕ) (ev : Event) : Type 0 where
     pub chain : List ℕ
-    pub next : Next h′ chain m′ bs′ (ticked y)
+    pub next : Next h′ chain m′ β′ (ticked y)
     pub change : Change m m′ ev
     pub kind : y .kind ≡ me .kind
     pub same-key : y .key ≡ me .key
@@ -158,17 +155,17 @@ module _ {h : Header} {ws : List Worker} {Ps Qs : Pasts} {w : ℕ} {c m bs : Lis
   abbrev pub Told : Bool → Answer → Type 0
   Told tk a = ToldBy m (Ps w) me tk a
 
-  pub record Finished (tk : Bool) (a : Answer) (h′ : Header) (m′ bs′ : List ℕ) (ev : Event) : Type 0 where
+  pub record Finished (tk : Bool) (a : Answer) (h′ : Header) (m′ : List ℕ) (β′ : ℕ → ℕ) (ev : Event) : Type 0 where
     pub chain : List ℕ
-    pub after : Inv (busied (dropped w (h′ .busy)) h′) (set ws w idle) Qs chain (closed (turn h w me) m′) bs′
+    pub after : Inv (busied (dropped w (h′ .busy)) h′) (set ws w idle) Qs chain (closed (turn h w me) m′) β′
     pub none : ev ≡ nothing
     pub same : (j : ℕ) → Same m (closed (turn h w me) m′) j
     pub told : Told tk a
 
   abbrev pub Good : Bool → Move → Type 0
   Good tk Damaged = ⊥
-  Good tk (Going y e) = Went tk y (headerAfter e h) (nodesAfter e m) (bucketsAfter e bs) (written me e)
-  Good tk (Ended a e) = Finished tk a (headerAfter e h) (nodesAfter e m) (bucketsAfter e bs) (written me e)
+  Good tk (Going y e) = Went tk y (headerAfter e h) (nodesAfter e m) (valued (storedBy e) β) (written me e)
+  Good tk (Ended a e) = Finished tk a (headerAfter e h) (nodesAfter e m) (valued (storedBy e) β) (written me e)
 
   -- the worker stands at a place, with what it has in hand there
   pub record Stands (p : Spot) : Type 0 where
@@ -204,8 +201,8 @@ module _ {h : Header} {ws : List Worker} {Ps Qs : Pasts} {w : ℕ} {c m bs : Lis
   }
 
   -- the invariant after a step that goes on
-  pub gone : (y : Worker) (h′ : Header) (c′ m′ bs′ : List ℕ) → (w < h′ .w) → bit w (h′ .busy) ≡ 1 → Next h′ c′ m′ bs′ y → Inv h′ (set ws w y) Qs c′ m′ bs′
-  gone y h′ c′ m′ bs′ lt on n = back (n .rest) lt y Qs (z .others) (inr b) (inr (λ e. not-idle (n .spot) (sym (n .place) ∙ e), on))
+  pub gone : (y : Worker) (h′ : Header) (c′ m′ : List ℕ) (β′ : ℕ → ℕ) → (w < h′ .w) → bit w (h′ .busy) ≡ 1 → Next h′ c′ m′ β′ y → Inv h′ (set ws w y) Qs c′ m′ β′
+  gone y h′ c′ m′ β′ lt on n = back (n .rest) lt y Qs (z .others) (inr b) (inr (λ e. not-idle (n .spot) (sym (n .place) ∙ e), on))
       (key-is h′ w c′ m′ (Qs w) y b ∙ n .key-same) (dummy-is h′ w c′ m′ (Qs w) y b ∙ n .dum-same)
     where
       b : Busy h′ w c′ m′ (Qs w) y
@@ -219,7 +216,7 @@ module _ {h : Header} {ws : List Worker} {Ps Qs : Pasts} {w : ℕ} {c m bs : Lis
       }
 
   -- the invariant after a step that ends
-  pub over : (tk : Bool) (a : Answer) (c′ m′ : List ℕ) → Core h ws Ps w (heldKey me) (heldDummy me) c′ m′ bs → ((j : ℕ) → Same m m′ j) → Told tk a → Finished tk a h m′ bs nothing
+  pub over : (tk : Bool) (a : Answer) (c′ m′ : List ℕ) → Core h ws Ps w (heldKey me) (heldDummy me) c′ m′ β → ((j : ℕ) → Same m m′ j) → Told tk a → Finished tk a h m′ β nothing
   unfolding closedBy
   over tk a c′ m′ k s t = record {
     chain = c′;
@@ -230,7 +227,7 @@ module _ {h : Header} {ws : List Worker} {Ps Qs : Pasts} {w : ℕ} {c m bs : Lis
   }
 
   -- the same where the step writes a word of the header
-  pub overs : (tk : Bool) (a : Answer) (s n : ℕ) → Core (headed s n (h .busy) h) ws Ps w (heldKey me) (heldDummy me) c m bs → Told tk a → Finished tk a (headed s n (h .busy) h) m bs nothing
+  pub overs : (tk : Bool) (a : Answer) (s n : ℕ) → Core (headed s n (h .busy) h) ws Ps w (heldKey me) (heldDummy me) c m β → Told tk a → Finished tk a (headed s n (h .busy) h) m β nothing
   unfolding closedBy
   overs tk a s n k t = record { chain = c; after = ends k (z .lt) Qs (z .others); none = refl; same = ends-same k; told = t }
 

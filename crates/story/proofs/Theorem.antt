@@ -1,6 +1,6 @@
 -- The invariant holds at every state of every run, by induction on the calls; what is said of a run is read off it.
 -- Assumes nothing.
-use mathlib.Core.Path.{_≡_, refl, sym, ap}
+use mathlib.Core.Path.{_≡_, refl, sym, ap, _∙_}
 use mathlib.Core.Logic.{_≢_, _⊎_, inl, inr, ⊎-elim, _↔_}
 use mathlib.Core.Bool.{Bool, true, false, _&&_}
 use mathlib.Core.List.{List, [], _∷_, List·Memᴰ as In, List·Memᴰ·head as here}
@@ -17,18 +17,20 @@ use Rattle.names.specs.declared.Answer.the-variants.{Going, Yes, No, Limit, Sho
 use Rattle.record.specs.declared.Worker.{Worker}
 use Rattle.register.specs.Chain.{key, link, On, Registered}
 use Rattle.register.specs.Events.{Event, nothing, added, removed, Allowed, Then, adds, removes}
-use Rattle.story.specs.Run.{State, workerOf, Call, start, step, left, answer, Run, state, event, eventAt}
-use Rattle.story.specs.Story.{NeverDamaged, DummiesSuffice, tallied, Ledger, StepLaw, BitsAgree}
+use Rattle.story.specs.Run.{Call, start, step}
+use Rattle.story.specs.Story.{tallied}
+use Rattle.story.specs.Trace.{Shared, workerOf, done, answer, Called, Next, calls, pause, Trace, state, answerAt, eventAt, NeverDamaged, DummiesSuffice, Ledger, StepLaw, BitsAgree}
 use Rattle.story.proofs.Spans.{startsOf, began}
 use Rattle.story.proofs.Chain.{on-in, in-on}
 use Rattle.story.proofs.Stable.{Grows}
 use Rattle.story.proofs.Core.{Pasts}
 use Rattle.story.proofs.Registers.{Change, regular-odd-all}
-use Rattle.story.proofs.Calls.{InvOf, Made, step-made, start-made}
-use Rattle.story.proofs.Fresh.{ready, fresh-inv}
+use Rattle.story.proofs.Ends.{valued, keeps-valued}
+use Rattle.story.proofs.Calls.{InvOf, Made, step-done, step-made, start-done, start-made}
+use Rattle.story.proofs.Fresh.{fresh-inv}
 
 -- at an own step of the operation in progress the node was on the chain, unmarked, with this next node and this split key
-pub record Saw (r : Run) (i v n nx k : ℕ) : Type 0 where
+pub record Saw (r : Trace) (i v n nx k : ℕ) : Type 0 where
   pub call : ℕ
   pub from : began r v i < call
   pub upto : call < i
@@ -41,19 +43,19 @@ pub record Saw (r : Run) (i v n nx k : ℕ) : Type 0 where
 abbrev Anything : Pasts
 Anything v n nx k = Unit {0}
 
-abbrev pub Past : Run → ℕ → Pasts
+abbrev pub Past : Trace → ℕ → Pasts
 Past r i v n nx k = Saw r i v n nx k
 
-pub record Good (r : Run) (i : ℕ) : Type 0 where
+pub record Good (r : Trace) (i : ℕ) : Type 0 where
   pub chain : List ℕ
   pub inv : InvOf (state r i) (Past r i) chain
 
 -- ---- when an operation began
-began-step : (r : Run) (i v w : ℕ) → r .call i ≡ step w → began r v (suc i) ≡ began r v i
+began-step : (r : Trace) (i v w : ℕ) → r .call i ≡ step w → began r v (suc i) ≡ began r v i
 unfolding pick
 began-step r i v w e = rw e
 
-began-other : (r : Run) (i v w kind k : ℕ) → v ≢ w → r .call i ≡ start w kind k → began r v (suc i) ≡ began r v i
+began-other : (r : Trace) (i v w kind k : ℕ) → v ≢ w → r .call i ≡ start w kind k → began r v (suc i) ≡ began r v i
 unfolding pick
 began-other r i v w kind k ne e = rw (e, ne-eqb w v (λ q. ne (sym q)))
 
@@ -77,32 +79,37 @@ unfolding pick
 not-both true a b = refl
 not-both false a b = refl
 
-began-refused : (r : Run) (i v w kind k : ℕ) → answer (state r i) (start w kind k) ≢ Going → r .call i ≡ start w kind k → began r v (suc i) ≡ began r v i
-began-refused r i v w kind k ng e = rw (e, ne-eqb (numberOf (answer (state r i) (start w kind k))) 0 (λ q. ng (only-going (answer (state r i) (start w kind k)) q))) (not-both (eqb w v) i (began r v i))
+began-refused : (r : Trace) (i v w kind k : ℕ) → answerAt r i ≢ Going → r .call i ≡ start w kind k → began r v (suc i) ≡ began r v i
+began-refused r i v w kind k ng e = rw (e, ne-eqb (numberOf (answerAt r i)) 0 (λ q. ng (only-going (answerAt r i) q))) (not-both (eqb w v) i (began r v i))
 
-pub began-le : (r : Run) (v i : ℕ) → began r v i ≤ i
+-- a start of a trace answers what the start does
+start-answers : (s : Shared) (w kind k : ℕ) (a : Answer) (ev : Event) (s′ : Shared) → Next s (start w kind k) a ev s′ → a ≡ done s (start w kind k) .answer
+start-answers s w kind k a ev s′ (calls q) = q .answer
+start-answers s w kind k a ev s′ (pause p) = let q = p .call in let z : _≡_ {A = ℕ} 0 1 = cc in absurd (omega arith)
+
+pub began-le : (r : Trace) (v i : ℕ) → began r v i ≤ i
 began-le r v zero = omega arith
-began-le r v (suc i) = both (λ (n : ℕ). n ≤ suc i) (startsOf v (r .call i) (answer (state r i) (r .call i))) (omega arith) (omega (arith, began-le r v i))
+began-le r v (suc i) = both (λ (n : ℕ). n ≤ suc i) (startsOf v (r .call i) (answerAt r i)) (omega arith) (omega (arith, began-le r v i))
 
-pub began-lt : (r : Run) (v i : ℕ) → began r v (suc i) < suc i
-began-lt r v i = both (λ (n : ℕ). n < suc i) (startsOf v (r .call i) (answer (state r i) (r .call i))) (omega arith) (omega (arith, began-le r v i))
+pub began-lt : (r : Trace) (v i : ℕ) → began r v (suc i) < suc i
+began-lt r v i = both (λ (n : ℕ). n < suc i) (startsOf v (r .call i) (answerAt r i)) (omega arith) (omega (arith, began-le r v i))
 
 -- what was seen stays seen while the operation goes on
-kept : (r : Run) (i v : ℕ) → began r v (suc i) ≡ began r v i → Grows (Past r i v) (Past r (suc i) v)
+kept : (r : Trace) (i v : ℕ) → began r v (suc i) ≡ began r v i → Grows (Past r i v) (Past r (suc i) v)
 kept r i v e a b k s = record { call = s .call; from = rw e (s .from); upto = omega (arith, s .upto); own = s .own; on = s .on; link-is = s .link-is; key-is = s .key-is }
 
 -- a busy worker's operation began before now
-pub alive : (r : Run) (i : ℕ) (g : Good r i) (w : ℕ) → w < state r i .header .w → workerOf (state r i) w .place ≢ IDLE → began r w i < i
+pub alive : (r : Trace) (i : ℕ) (g : Good r i) (w : ℕ) → w < state r i .header .w → workerOf (state r i) w .place ≢ IDLE → began r w i < i
 alive r zero g w lt ne =
-    let p = ready r in
+    let p = r .first in
     absurd (ne (ap (λ (x : Worker). x .place) (p .rest w (rw (p .header) at lt))))
 alive r (suc i) g w lt ne = began-lt r w i
 
 -- ---- one call
-module _ (r : Run) (i : ℕ) (g : Good r i) where
-  made : (c : Call) → r .call i ≡ c → Made (state r i) (Past r i) (Past r (suc i)) c (left (state r i) c) (event (state r i) c)
-  made (step w) e = step-made (state r i) (Past r i) (Past r (suc i)) (g .chain) (g .inv) w (λ v. kept r i v (began-step r i v w e))
-      (λ lt ne n nx o l. record {
+module _ (r : Trace) (i : ℕ) (g : Good r i) where
+  made : (c : Call) → r .call i ≡ c → Next (state r i) c (answerAt r i) (eventAt r i) (state r (suc i)) → Made (state r i) (Past r i) (Past r (suc i)) c (answerAt r i) (state r (suc i)) (eventAt r i)
+  made (step w) e n = step-made (state r i) (Past r i) (Past r (suc i)) (g .chain) (g .inv) w (λ v. kept r i v (began-step r i v w e))
+      (λ lt ne q nx o l. record {
         call = i;
         from = rw (began-step r i w w e) (alive r i g w lt ne);
         upto = omega arith;
@@ -110,24 +117,26 @@ module _ (r : Run) (i : ℕ) (g : Good r i) where
         on = in-on (state r i .nodes) (g .chain) (g .inv .glob .walk) o;
         link-is = l;
         key-is = refl;
-      })
-  made (start w kind k) e = start-made (state r i) (Past r i) (Past r (suc i)) (g .chain) (g .inv) w kind k
-      (λ v ne. kept r i v (began-other r i v w kind k ne e)) (λ ng. kept r i w (began-refused r i w w kind k ng e))
+      }) (answerAt r i) (eventAt r i) (state r (suc i)) n
+  made (start w kind k) e n = start-made (state r i) (Past r i) (Past r (suc i)) (g .chain) (g .inv) w kind k
+      (λ v ne. kept r i v (began-other r i v w kind k ne e))
+      (λ ng. kept r i w (began-refused r i w w kind k (λ q. ng (sym (start-answers (state r i) w kind k (answerAt r i) (eventAt r i) (state r (suc i)) n) ∙ q)) e))
+      (answerAt r i) (eventAt r i) (state r (suc i)) n
 
-  pub made-at : Made (state r i) (Past r i) (Past r (suc i)) (r .call i) (left (state r i) (r .call i)) (event (state r i) (r .call i))
-  made-at = made (r .call i) refl
+  pub made-at : Made (state r i) (Past r i) (Past r (suc i)) (r .call i) (answerAt r i) (state r (suc i)) (eventAt r i)
+  made-at = made (r .call i) refl (r .next i)
 
-pub good : (r : Run) (i : ℕ) → Good r i
-good r zero = record { chain = 1 ∷ []; inv = fresh-inv r (Past r 0) }
+pub good : (r : Trace) (i : ℕ) → Good r i
+good r zero = record { chain = 1 ∷ []; inv = fresh-inv (r .limits) (state r 0) (r .first) (Past r 0) }
 good r (suc i) = let k = made-at r i (good r i) in record { chain = k .chain; inv = k .inv }
 
 -- ---- no call answers 12, 11 or 19
-any-call : (s : State) (Ps : Pasts) (c : List ℕ) → InvOf s Ps c → (k : Call) → (answer s k ≢ Damaged) × (answer s k ≢ Short) × (answer s k ≢ NoDummy)
+any-call : (s : Shared) (Ps : Pasts) (c : List ℕ) → InvOf s Ps c → (k : Call) → (answer s k ≢ Damaged) × (answer s k ≢ Short) × (answer s k ≢ NoDummy)
 any-call s Ps c inv (step w) =
-    let k = step-made s Ps Anything c inv w (λ v a b n p. tt) (λ lt ne n nx o l. tt) in
+    let k = step-done s Ps Anything c inv w (λ v a b n p. tt) (λ lt ne n nx o l. tt) (valued (done s (step w) .stores) (s .value)) (keeps-valued (s .header .m) (done s (step w) .stores) (s .value)) in
     (k .sound, k .long, k .dummies)
 any-call s Ps c inv (start w kind key) =
-    let k = start-made s Ps Anything c inv w kind key (λ v ne a b n p. tt) (λ ng a b n p. tt) in
+    let k = start-done s Ps Anything c inv w kind key (λ v ne a b n p. tt) (λ ng a b n p. tt) (s .value) (λ i l. refl) in
     (k .sound, k .long, k .dummies)
 
 pub never-damaged : NeverDamaged
@@ -137,7 +146,7 @@ pub dummies-suffice : DummiesSuffice
 dummies-suffice r i c = let g = good r i in any-call (state r i) (Past r i) (g .chain) (g .inv) c .2
 
 -- ---- registered keys change by events alone
-pub changes : (r : Run) (i : ℕ) → Change (state r i .nodes) (state r (suc i) .nodes) (eventAt r i)
+pub changes : (r : Trace) (i : ℕ) → Change (state r i .nodes) (state r (suc i) .nodes) (eventAt r i)
 changes r i = made-at r i (good r i) .change
 
 allowed : (a b : List ℕ) (ev : Event) → Change a b ev → Allowed ev (Registered a)
@@ -187,9 +196,9 @@ balance a b (removed j) k ins del l c p = by (ℕ-discrete k j) p
     by (no ne) (inr p) = inr (λ q. p .0 (c .others k l ne .already q), omega (arith, plus-none k j del ne, p .1))
 
 -- no key is registered in a fresh register
-pub none-yet : (r : Run) (k : ℕ) → Registered (state r 0 .nodes) k → ⊥
+pub none-yet : (r : Trace) (k : ℕ) → Registered (state r 0 .nodes) k → ⊥
 none-yet r k g =
-    let i = fresh-inv r (Past r 0) in
+    let i = fresh-inv (r .limits) (state r 0) (r .first) (Past r 0) in
     let e : key (state r 0 .nodes) (g .node) ≡ 0 = rw (is-one (on-in (state r 0 .nodes) (1 ∷ []) (i .glob .walk) (g .on))) (i .glob .zero) in
     omega (arith, regular-odd-all k, g .has)
   where

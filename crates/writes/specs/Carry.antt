@@ -17,8 +17,10 @@ use Rattle.record.specs.Worker.{idle, heldKey, heldDummy}
 use Rattle.acts.specs.declared.Effect.{Effect}
 use Rattle.acts.specs.declared.Move.{Move}
 use Rattle.acts.specs.declared.Move.the-variants.{Damaged, Going, Ended}
-use Rattle.writes.specs.Writes.{nodesAfter, bucketsAfter, headerAfter}
+use Rattle.writes.specs.Writes.{nodesAfter, headerAfter, storedBy}
 use Rattle.writes.specs.declared.Outcome.{Outcome}
+use Rattle.writes.specs.declared.Stores.{Stores}
+use Rattle.writes.specs.declared.Stores.the-variants.{None}
 
 -- all that a call leaves: what it hands back, and the two lent tables
 pub record After : Type 0 where
@@ -28,6 +30,14 @@ pub record After : Type 0 where
 
 abbrev pub after : Outcome → List ℕ → List ℕ → After
 after o ns bs = record { out = o; nodes = ns; buckets = bs }
+
+-- what a decision leaves, but for the buckets
+pub record Carried : Type 0 where
+  pub out : Outcome
+  pub nodes : List ℕ
+
+abbrev pub carriedOut : Outcome → List ℕ → Carried
+carriedOut o ns = record { out = o; nodes = ns }
 
 -- header and record as they came, with an answer that changes nothing
 abbrev pub handedBack : Answer → Header → Worker → Outcome
@@ -51,7 +61,13 @@ ending w h steps a e =
     let h′ = headerAfter e h in record { answer = a; steps = tick steps; header = busied (dropped w (h′ .busy)) h′; worker = idle }
 
 -- a decision carried out for worker w, with its header and record, where the last node is `last`
-abbrev pub carriedBy : ℕ → ℕ → Header → Worker → Move → List ℕ → List ℕ → After
-carriedBy last w h x Damaged ns bs = after (handedBack IsDamaged h x) ns bs
-carriedBy last w h x (Going y e) ns bs = after (going y e h) (nodesAfter e ns) (bucketsAfter e bs)
-carriedBy last w h x (Ended a e) ns bs = after (ending w h (x .steps) a e) (closedBy last w x (nodesAfter e ns)) (bucketsAfter e bs)
+abbrev pub carriedBy : ℕ → ℕ → Header → Worker → Move → List ℕ → Carried
+carriedBy last w h x Damaged ns = carriedOut (handedBack IsDamaged h x) ns
+carriedBy last w h x (Going y e) ns = carriedOut (going y e h) (nodesAfter e ns)
+carriedBy last w h x (Ended a e) ns = carriedOut (ending w h (x .steps) a e) (closedBy last w x (nodesAfter e ns))
+
+-- what is to be stored in the buckets
+abbrev pub storeOf : Move → Stores
+storeOf Damaged = None
+storeOf (Going y e) = storedBy e
+storeOf (Ended a e) = storedBy e

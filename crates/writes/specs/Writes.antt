@@ -1,12 +1,14 @@
--- What each effect leaves in the node words, the bucket words and the header.
+-- What each effect leaves in the node words and in the header, and what it asks to be stored in the buckets.
 use Prim.Native.Nat.{ℕ}
 use mathlib.Core.Bool.{Bool, true, false}
 use mathlib.Core.List.{List}
-use Rattle.words.specs.Words.{SPLIT-KEY, LINK, STANDING, TAKEN, put, store, linkTo}
+use Rattle.words.specs.Words.{SPLIT-KEY, LINK, STANDING, TAKEN, put, linkTo}
 use Rattle.header.specs.declared.Header.{Header}
 use Rattle.header.specs.Header.{sized, counted}
 use Rattle.acts.specs.declared.Effect.{Effect}
 use Rattle.acts.specs.declared.Effect.the-variants.{Nothing, Take, Free, Aim, Place, Mark, Unlink, Store, Count, Size}
+use Rattle.writes.specs.declared.Stores.{Stores}
+use Rattle.writes.specs.declared.Stores.the-variants.{None, Into}
 
 -- the step reads, and writes nothing
 abbrev pub isNothing : Effect → Bool
@@ -33,17 +35,18 @@ nodesAfter (Store b n) ns = ns
 nodesAfter (Count v) ns = ns
 nodesAfter (Size v) ns = ns
 
-abbrev pub bucketsAfter : Effect → List ℕ → List ℕ
-bucketsAfter Nothing bs = bs
-bucketsAfter (Take n split) bs = bs
-bucketsAfter (Free n) bs = bs
-bucketsAfter (Aim n next) bs = bs
-bucketsAfter (Place n next prev) bs = bs
-bucketsAfter (Mark n next) bs = bs
-bucketsAfter (Unlink prev next n busy) bs = bs
-bucketsAfter (Store b n) bs = store bs b n
-bucketsAfter (Count v) bs = bs
-bucketsAfter (Size v) bs = bs
+-- what is to be stored in the buckets: nothing, or a node in a bucket
+abbrev pub storedBy : Effect → Stores
+storedBy Nothing = None
+storedBy (Take n split) = None
+storedBy (Free n) = None
+storedBy (Aim n next) = None
+storedBy (Place n next prev) = None
+storedBy (Mark n next) = None
+storedBy (Unlink prev next n busy) = None
+storedBy (Store b n) = Into b n
+storedBy (Count v) = None
+storedBy (Size v) = None
 
 abbrev pub headerAfter : Effect → Header → Header
 headerAfter Nothing h = h

@@ -1,8 +1,9 @@
-// A decision carried out: what a step's write leaves in the lent tables and in the header, and at an ended answer the operation closed.
+// A decision carried out: what a step's write leaves in the lent nodes and in the header, and at an ended answer the operation closed. What it stores in
+// the buckets it says, and whoever knows how the buckets lie stores it.
 ghost use mathlib.Core.Path.{_≡_};
 ghost use Rattle.words.specs.Words.{LINK, put, linkWord, linkTo};
-ghost use Rattle.writes.specs.Writes.{isNothing, nodesAfter, bucketsAfter, headerAfter};
-ghost use Rattle.writes.specs.Carry.{after, handedBack, tick, going, closedBy, ending, carriedBy};
+ghost use Rattle.writes.specs.Writes.{isNothing, nodesAfter, headerAfter, storedBy};
+ghost use Rattle.writes.specs.Carry.{carriedOut, handedBack, tick, going, closedBy, ending, carriedBy, storeOf};
 use acts::Effect;
 use acts::Move;
 use header::Header;
@@ -16,6 +17,12 @@ pub struct Outcome {
     pub steps: u32,
     pub header: Header,
     pub worker: Worker,
+}
+
+// What a decision asks to be stored in the buckets.
+pub enum Stores {
+    None,
+    Into { bucket: u32, node: u32 },
 }
 
 // A link as one word: twice the number of the next node, and the mark. What passes 32 bits is cut.
@@ -53,9 +60,9 @@ fn nothing(effect: Effect) -> bool
     }
 }
 
-// The write of a step, in the tables.
-fn write(effect: Effect, nodes: &mut [u32], buckets: &mut [u32])
-    ensures { λ _. ⌜ (now (nodes .exit) ≡ nodesAfter effect (now (nodes .entry))) × (now (buckets .exit) ≡ bucketsAfter effect (now (buckets .entry))) ⌝ }
+// The write of a step, in the nodes.
+fn write(effect: Effect, nodes: &mut [u32])
+    ensures { λ _. ⌜ now (nodes .exit) ≡ nodesAfter effect (now (nodes .entry)) ⌝ }
 {
     match effect {
         Effect::Nothing => {}
@@ -85,9 +92,7 @@ fn write(effect: Effect, nodes: &mut [u32], buckets: &mut [u32])
             aim(nodes, prev, next, false);
             words::put(nodes, node, words::STANDING, busy);
         }
-        Effect::Store { bucket, node } => {
-            words::store(buckets, bucket, node);
-        }
+        Effect::Store { bucket: _, node: _ } => {}
         Effect::Count { value: _ } => {}
         Effect::Size { value: _ } => {}
     }
@@ -189,6 +194,44 @@ fn ending(number: u32, header: Header, steps: u32, answer: Answer, effect: Effec
     }
 }
 
+// The write of a step, in the buckets.
+fn stored(effect: Effect) -> Stores
+    ensures { λ r. ⌜ r ≡ storedBy effect ⌝ }
+{
+    match effect {
+        Effect::Store { bucket, node } => Stores::Into { bucket, node },
+        Effect::Nothing => Stores::None,
+        Effect::Take { node: _, split: _ } => Stores::None,
+        Effect::Free { node: _ } => Stores::None,
+        Effect::Aim { node: _, next: _ } => Stores::None,
+        Effect::Place {
+            node: _,
+            next: _,
+            prev: _,
+        } => Stores::None,
+        Effect::Mark { node: _, next: _ } => Stores::None,
+        Effect::Unlink {
+            prev: _,
+            next: _,
+            node: _,
+            busy: _,
+        } => Stores::None,
+        Effect::Count { value: _ } => Stores::None,
+        Effect::Size { value: _ } => Stores::None,
+    }
+}
+
+// What a decision asks to be stored in the buckets.
+pub fn store_of(decision: Move) -> Stores
+    ensures { λ r. ⌜ r ≡ storeOf decision ⌝ }
+{
+    match decision {
+        Move::Damaged => Stores::None,
+        Move::Going { worker: _, effect } => stored(effect),
+        Move::Ended { answer: _, effect } => stored(effect),
+    }
+}
+
 // A decision is carried out, in a register whose last node is `last`; damaged words change nothing.
 pub fn carry(
     last: u32,
@@ -197,9 +240,8 @@ pub fn carry(
     worker: Worker,
     decision: Move,
     nodes: &mut [u32],
-    buckets: &mut [u32],
 ) -> Outcome
-    ensures { λ r. ⌜ after r (now (nodes .exit)) (now (buckets .exit)) ≡ carriedBy last number header worker decision (now (nodes .entry)) (now (buckets .entry)) ⌝ }
+    ensures { λ r. ⌜ carriedOut r (now (nodes .exit)) ≡ carriedBy last number header worker decision (now (nodes .entry)) ⌝ }
 {
     match decision {
         Move::Damaged => handed_back(Answer::Damaged, header, worker),
@@ -210,11 +252,11 @@ pub fn carry(
             if nothing(effect) {
                 return going(next, effect, header);
             }
-            write(effect, nodes, buckets);
+            write(effect, nodes);
             going(next, effect, header)
         }
         Move::Ended { answer, effect } => {
-            write(effect, nodes, buckets);
+            write(effect, nodes);
             close(last, number, worker, nodes);
             ending(number, header, worker.steps, answer, effect)
         }

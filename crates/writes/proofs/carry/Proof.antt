@@ -1,4 +1,4 @@
--- Each arm is its decision's own clause; an effect that writes nothing leaves both tables as they are.
+-- Each arm is its decision's own clause; an effect that writes nothing leaves the nodes as they are.
 -- Assumes nothing.
 use mathlib.Core.Path.{_≡_, refl, sym, _∙_}
 use mathlib.Core.List.{List}
@@ -8,21 +8,21 @@ use denote.Ref.{now}
 use borrow.Author.Needs.{needs}
 use Rattle.acts.specs.declared.Effect.{Effect}
 use Rattle.acts.specs.declared.Effect.the-variants.{Nothing, Take, Free, Aim, Place, Mark, Unlink, Store, Count, Size}
-use Rattle.writes.specs.Writes.{isNothing, nodesAfter, bucketsAfter}
+use Rattle.writes.specs.Writes.{isNothing, nodesAfter}
 use Rattle.writes.proofs.carry.Statement.{statement}
 use Rattle.writes.proofs.carry.Tie as tie
 
-unwritten : (e : Effect) (ns bs : List ℕ) → isNothing e ≡ true → (nodesAfter e ns ≡ ns) × (bucketsAfter e bs ≡ bs)
-unwritten Nothing ns bs t = (refl, refl)
-unwritten (Take n split) ns bs t = absurd (false≢true t)
-unwritten (Free n) ns bs t = absurd (false≢true t)
-unwritten (Aim n next) ns bs t = absurd (false≢true t)
-unwritten (Place n next prev) ns bs t = absurd (false≢true t)
-unwritten (Mark n next) ns bs t = absurd (false≢true t)
-unwritten (Unlink prev next n busy) ns bs t = absurd (false≢true t)
-unwritten (Store b n) ns bs t = absurd (false≢true t)
-unwritten (Count v) ns bs t = absurd (false≢true t)
-unwritten (Size v) ns bs t = absurd (false≢true t)
+unwritten : (e : Effect) (ns : List ℕ) → isNothing e ≡ true → nodesAfter e ns ≡ ns
+unwritten Nothing ns t = refl
+unwritten (Take n split) ns t = absurd (false≢true t)
+unwritten (Free n) ns t = absurd (false≢true t)
+unwritten (Aim n next) ns t = absurd (false≢true t)
+unwritten (Place n next prev) ns t = absurd (false≢true t)
+unwritten (Mark n next) ns t = absurd (false≢true t)
+unwritten (Unlink prev next n busy) ns t = absurd (false≢true t)
+unwritten (Store b n) ns t = absurd (false≢true t)
+unwritten (Count v) ns t = absurd (false≢true t)
+unwritten (Size v) ns t = absurd (false≢true t)
 
 enum-told : tie.Need-enum-told
 enum-told c = search needs
@@ -41,10 +41,10 @@ going-requires c κs = tt
 
 returns : tie.Need-returns
 returns c =
-    let a = c .before .before .before .before .before .before .before .before .args in
+    let a = c .before .before .before .before .before .before .before .args in
     let e : Effect = c .before .before .before .before .decision .given .0 .1 .0 in
-    let u = unwritten e (now (a .nodes)) (now (a .buckets)) (sym (c .before .before .nothing .ensures) ∙ c .before .if1 .taken) in
-    rw (c .before .before .before .before .decision .given .1) (rw (u .0, u .1, c .going .ensures))
+    let u = unwritten e (now (a .nodes)) (sym (c .before .before .nothing .ensures) ∙ c .before .if1 .taken) in
+    rw (c .before .before .before .before .decision .given .1) (rw (u, c .going .ensures))
 
 write-requires : tie.Need-write-requires
 write-requires c κs = tt
@@ -70,20 +70,14 @@ returns-2 c = rw (c .before .enum-told .given .1) (rw (c .handed-back .ensures))
 same-length : tie.Need-same-length
 same-length c = search needs
 
+returns-3 : tie.Need-returns-3
+returns-3 c = rw (c .before .before .before .before .before .before .before .before .decision .given .1) (rw (c .before .before .before .write .ensures, c .going2 .ensures))
+
 same-length-2 : tie.Need-same-length-2
 same-length-2 c = search needs
 
-returns-3 : tie.Need-returns-3
-returns-3 c = rw (c .before .before .before .before .before .before .before .before .before .before .before .decision .given .1) (rw (c .before .before .before .before .before .write .ensures .0, c .before .before .before .before .before .write .ensures .1, c .going2 .ensures))
-
-same-length-3 : tie.Need-same-length-3
-same-length-3 c = search needs
-
-same-length-4 : tie.Need-same-length-4
-same-length-4 c = search needs
-
 returns-4 : tie.Need-returns-4
-returns-4 c = rw (c .before .before .before .before .before .before .before .before .before .before .before .before .before .decision2 .given .1) (rw (c .before .before .before .close .ensures, c .before .before .before .before .before .before .before .before .before .write2 .ensures .0, c .before .before .before .before .before .before .before .before .before .write2 .ensures .1, c .ending .ensures))
+returns-4 c = rw (c .before .before .before .before .before .before .before .before .before .before .decision2 .given .1) (rw (c .before .before .before .close .ensures, c .before .before .before .before .before .before .before .write2 .ensures, c .ending .ensures))
 
 pub carry-spec : {M : Type 1} → statement M
 carry-spec =
@@ -103,8 +97,6 @@ carry-spec =
     ending-requires
     returns-2
     same-length
-    same-length-2
     returns-3
-    same-length-3
-    same-length-4
+    same-length-2
     returns-4)
