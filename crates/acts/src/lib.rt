@@ -1,4 +1,8 @@
 // What a step can do: its one write to shared memory, and what becomes of the operation. The places decide it, the writes carry it out.
+// And what a call hands back.
+ghost use mathlib.Core.Path.{_≡_};
+ghost use Rattle.acts.specs.Acts.{answered};
+use header::Header;
 use names::Answer;
 use record::Worker;
 
@@ -57,4 +61,30 @@ pub enum Move {
     Damaged,
     Going { worker: Worker, effect: Effect },
     Ended { answer: Answer, effect: Effect },
+}
+
+// What a call hands back beside a record; an ended answer gives the operation's steps.
+pub struct Called {
+    pub answer: Answer,
+    pub steps: u32,
+    pub header: Header,
+}
+
+// What a start or a step hands back.
+pub struct Outcome {
+    pub called: Called,
+    pub worker: Worker,
+}
+
+impl Called {
+    // An answer that tells no steps.
+    pub fn answered(answer: Answer, header: Header) -> Called
+        ensures { λ r. ⌜ r ≡ answered answer header ⌝ }
+    {
+        Called {
+            answer,
+            steps: 0,
+            header,
+        }
+    }
 }

@@ -10,6 +10,8 @@ use Rattle.header.proofs.Header.limit_broken.Reads as limit-broken
 use Rattle.header.proofs.Header.limit_broken.Kinds as limit-broken-kinds
 use Rattle.header.proofs.Header.damaged.Reads as damaged
 use Rattle.header.proofs.Header.damaged.Kinds as damaged-kinds
+use Rattle.header.proofs.Header.missing.Reads as missing
+use Rattle.header.proofs.Header.missing.Kinds as missing-kinds
 use Rattle.header.proofs.Header.doubles.Reads as doubles
 use Rattle.header.proofs.Header.doubles.Kinds as doubles-kinds
 
@@ -24,6 +26,9 @@ limit-broken-same κs a x y e f p q = p ∙ sym q
 
 pub damaged-same : Determined 0 damaged-kinds.ps damaged-kinds.r damaged.Post
 damaged-same κs a x y e f p q = p ∙ sym q
+
+pub missing-same : Determined 0 missing-kinds.ps missing-kinds.r missing.Post
+missing-same κs a x y e f p q = p ∙ sym q
 
 pub doubles-same : Determined 0 doubles-kinds.ps doubles-kinds.r doubles.Post
 doubles-same κs a x y e f p q = p ∙ sym q

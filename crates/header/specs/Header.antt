@@ -3,6 +3,10 @@ use Prim.Native.Nat.{ℕ, _+_, _*_, _/_, _^_}
 use mathlib.Core.Bool.{Bool, not, _&&_, _||_}
 use lib.Dec.{leb, ltb}
 use Rattle.tree.specs.Tree.{powerUpTo}
+use Rattle.choice.specs.Choice.{pick}
+use Rattle.words.specs.declared.Lengths.{Lengths}
+use Rattle.names.specs.declared.Answer.{Answer}
+use Rattle.names.specs.declared.Answer.the-variants.{Short, Damaged, NoWorker}
 use Rattle.header.specs.declared.Header.{Header}
 
 -- the header with another size, count or set of busy workers; antt has no update of a record
@@ -41,8 +45,12 @@ unfoldable pub headerDamaged : Header → Bool
 headerDamaged h = limitBroken h || sizeBroken h || busyBeyond h
 
 -- 11: fewer than 3N node words or M bucket words
-unfoldable pub isShort : Header → ℕ → ℕ → Bool
-isShort h nodes buckets = ltb nodes (nodesOf h * 3) || ltb buckets (h .m)
+unfoldable pub isShort : Header → Lengths → Bool
+isShort h lengths = ltb (lengths .nodes) (nodesOf h * 3) || ltb (lengths .buckets) (h .m)
+
+-- a worker or its record that there is not: 12, then 11 where there are too few records or words, then 13
+unfoldable pub missing : Header → Bool → Lengths → Answer
+missing h few lengths = pick (headerDamaged h) Damaged (pick (few || isShort h lengths) Short NoWorker)
 
 -- I9's load test: old is not negative, old / size (rounded down) is above L, and the size read is below M
 unfoldable pub doubles : Header → ℕ → ℕ → Bool

@@ -1,6 +1,8 @@
 // The register's header, by value: its faults, row by row of the scope paper, and the load test.
 ghost use mathlib.Core.Path.{_≡_};
-ghost use Rattle.header.specs.Header.{nodesOf, limitBroken, sizeBroken, busyBeyond, headerDamaged, isShort, doubles};
+ghost use Rattle.header.specs.Header.{nodesOf, limitBroken, sizeBroken, busyBeyond, headerDamaged, isShort, missing, doubles};
+use names::Answer;
+use words::Lengths;
 
 // The register's header: limits M, K, W, L, the size, the count and the set of busy workers.
 pub struct Header {
@@ -55,10 +57,23 @@ impl Header {
     }
 
     // 11: a lent table has fewer than 3N node words or M bucket words.
-    pub fn short(self, nodes: usize, buckets: usize) -> bool
-        ensures { λ r. ⌜ r ≡ isShort self nodes buckets ⌝ }
+    pub fn short(self, lengths: Lengths) -> bool
+        ensures { λ r. ⌜ r ≡ isShort self lengths ⌝ }
     {
-        ((nodes as u64) < self.nodes() * 3) | ((buckets as u64) < (self.m as u64))
+        ((lengths.nodes as u64) < self.nodes() * 3) | ((lengths.buckets as u64) < (self.m as u64))
+    }
+
+    // A worker or its record that there is not: 12, then 11 where there are too few records or words, then 13.
+    pub fn missing(self, few: bool, lengths: Lengths) -> Answer
+        ensures { λ r. ⌜ r ≡ missing self few lengths ⌝ }
+    {
+        if self.damaged() {
+            return Answer::Damaged;
+        }
+        if few | self.short(lengths) {
+            return Answer::Short;
+        }
+        Answer::NoWorker
     }
 
     // The load test of figure 5, lines I9 and I10: with its top bit set the old count is negative.

@@ -5,7 +5,8 @@ use contract.Lifetimes.{Lfts}
 use denote.Triple.Clauses.{AtExit}
 use denote.Ref.{now}
 use borrow.Fn.Kinds.{Dens, resT, endedOf}
-use Rattle.prepare.specs.Prepare.{Kept}
+use Rattle.words.specs.Words.{Left}
+use Rattle.acts.specs.declared.Called.{Called}
 use Rattle.prepare.proofs.Limits.prepare.Reads as prepare
 use Rattle.prepare.proofs.Limits.prepare.Kinds as prepare-kinds
 
@@ -15,4 +16,4 @@ pub prepare-same : (κs : Lfts 2) (a : Dens κs prepare-kinds.ps) (x y : resT pr
     → (x ≡ y) × (now (e .1 .1 .0) ≡ now (f .1 .1 .0)) × (now (e .1 .1 .1 .0) ≡ now (f .1 .1 .1 .0))
 prepare-same κs a x y e f p q =
     let same = p ∙ sym q in
-    (ap (λ (k : Kept). k .out) same, ap (λ (k : Kept). k .nodes) same, ap (λ (k : Kept). k .buckets) same)
+    (ap (λ (l : Left Called). l .out) same, ap (λ (l : Left Called). l .tables .nodes) same, ap (λ (l : Left Called). l .tables .buckets) same)

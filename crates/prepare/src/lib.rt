@@ -1,9 +1,12 @@
 // Preparing a register over the lent tables.
 ghost use mathlib.Core.Path.{_≡_};
-ghost use Rattle.prepare.specs.Prepare.{freshHeader, prepareVerdict, kept, prepared};
+ghost use Rattle.words.specs.Words.{tables, left};
+ghost use Rattle.prepare.specs.Prepare.{freshHeader, prepareVerdict, prepared};
+use acts::Called;
 use header::Header;
 use names::Answer;
 use names::Verdict;
+use words::Lengths;
 
 // What a register is asked to hold: M buckets, K key nodes, W workers, load L.
 pub struct Limits {
@@ -11,12 +14,6 @@ pub struct Limits {
     pub k: u32,
     pub w: u32,
     pub l: u32,
-}
-
-// What preparing hands back.
-pub struct Prepared {
-    pub answer: Answer,
-    pub header: Header,
 }
 
 impl Limits {
@@ -36,36 +33,37 @@ impl Limits {
     }
 
     // 10, then 11.
-    fn verdict(self, nodes: usize, buckets: usize) -> Verdict
-        ensures { λ r. ⌜ r ≡ prepareVerdict self nodes buckets ⌝ }
+    fn verdict(self, lengths: Lengths) -> Verdict
+        ensures { λ r. ⌜ r ≡ prepareVerdict self lengths ⌝ }
     {
         let h = self.fresh_header();
         if h.limit_broken() {
             return Verdict::Refused(Answer::Limit);
         }
-        if h.short(nodes, buckets) {
+        if h.short(lengths) {
             return Verdict::Refused(Answer::Short);
         }
         Verdict::Pass
     }
 
     // A register over the lent tables: every node free but node 1, bucket 0's dummy; nothing past the tables' own words is written.
-    pub fn prepare(self, header: Header, nodes: &mut [u32], buckets: &mut [u32]) -> Prepared
-        ensures { λ r. ⌜ kept r (now (nodes .exit)) (now (buckets .exit)) ≡ prepared self header (now (nodes .entry)) (now (buckets .entry)) ⌝ }
+    pub fn prepare(self, header: Header, nodes: &mut [u32], buckets: &mut [u32]) -> Called
+        ensures { λ r. ⌜ left r (tables (now (nodes .exit)) (now (buckets .exit))) ≡ prepared self header (tables (now (nodes .entry)) (now (buckets .entry))) ⌝ }
     {
-        let verdict = self.verdict(nodes.len(), buckets.len());
+        let lengths = Lengths {
+            nodes: nodes.len(),
+            buckets: buckets.len(),
+        };
+        let verdict = self.verdict(lengths);
         match verdict {
-            Verdict::Refused(answer) => Prepared { answer, header },
+            Verdict::Refused(answer) => Called::answered(answer, header),
             Verdict::Pass => {
                 let h = self.fresh_header();
                 scans::clear(nodes, (h.nodes() * 3 % 4294967296) as u32);
                 words::put(nodes, 1, words::STANDING, words::TAKEN);
                 scans::clear(buckets, h.m);
                 words::store(buckets, 0, 1);
-                Prepared {
-                    answer: Answer::Going,
-                    header: h,
-                }
+                Called::answered(Answer::Going, h)
             }
         }
     }

@@ -5,7 +5,8 @@ use contract.Lifetimes.{Lfts}
 use denote.Triple.Clauses.{AtExit}
 use denote.Ref.{now}
 use borrow.Fn.Kinds.{Dens, resT, endedOf}
-use Rattle.writes.specs.Carry.{After}
+use Rattle.words.specs.Words.{Left}
+use Rattle.acts.specs.declared.Outcome.{Outcome}
 use Rattle.register.proofs.Turn.call.Reads as call
 use Rattle.register.proofs.Turn.call.Kinds as call-kinds
 
@@ -15,4 +16,4 @@ pub call-same : (κs : Lfts 2) (a : Dens κs call-kinds.ps) (x y : resT call-kin
     → (x ≡ y) × (now (e .1 .1 .0) ≡ now (f .1 .1 .0)) × (now (e .1 .1 .1 .0) ≡ now (f .1 .1 .1 .0))
 call-same κs a x y e f p q =
     let same = p ∙ sym q in
-    (ap (λ (k : After). k .out) same, ap (λ (k : After). k .nodes) same, ap (λ (k : After). k .buckets) same)
+    (ap (λ (l : Left Outcome). l .out) same, ap (λ (l : Left Outcome). l .tables .nodes) same, ap (λ (l : Left Outcome). l .tables .buckets) same)

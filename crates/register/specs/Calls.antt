@@ -1,11 +1,12 @@
 -- The calls: each a table of refusals in the scope paper's order, a row each, and what is done where no row holds.
 use Prim.Native.Nat.{ℕ}
 use mathlib.Core.Bool.{not, _||_}
-use mathlib.Core.List.{List, [], _∷_}
+use mathlib.Core.List.{[], _∷_}
 use lib.Dec.{ltb, leb, eqb}
-use lib.ListN.{length}
 use Rattle.choice.specs.Table.{firstOf}
 use Rattle.sets.specs.Sets.{raised}
+use Rattle.words.specs.declared.Lengths.{Lengths}
+use Rattle.words.specs.Words.{Tables, lengths, Left, left}
 use Rattle.names.specs.Names.{IDLE, INSERT, DELETE, KEY-LIMIT}
 use Rattle.names.specs.declared.Answer.the-variants.{Going, Short, Damaged, NoWorker, KeyAbove, IsBusy, IsIdle, NoKind}
 use Rattle.names.specs.declared.Verdict.{Verdict}
@@ -15,19 +16,19 @@ use Rattle.header.specs.Header.{headerDamaged, isShort, busied}
 use Rattle.record.specs.Worker.{begun}
 use Rattle.faults.specs.Faults.{workerDamaged}
 use Rattle.moves.specs.Moves.{decided}
-use Rattle.writes.specs.declared.Outcome.{Outcome}
-use Rattle.writes.specs.Carry.{After, after}
-use Rattle.register.specs.declared.Ask.{Ask}
-use Rattle.register.specs.declared.Ask.the-variants.{Start, Step}
+use Rattle.acts.specs.declared.Outcome.{Outcome}
+use Rattle.acts.specs.Acts.{handedBack}
+use Rattle.register.specs.declared.Call.{Call}
+use Rattle.register.specs.declared.Call.the-variants.{Start, Step}
 use Rattle.register.specs.declared.Turn.{Turn}
 use Rattle.register.specs.Step.{refusedWith, seenBy, carried}
 
 -- ---- starting: 12, 11, 13, 17, 14, 12, 15
-unfoldable pub startVerdict : Turn → ℕ → ℕ → ℕ → ℕ → Verdict
-startVerdict t kind key nodes buckets =
+unfoldable pub startVerdict : Turn → ℕ → ℕ → Lengths → Verdict
+startVerdict t kind key lengths =
     firstOf
     (refuses Damaged (headerDamaged (t .header))
-    ∷ refuses Short (isShort (t .header) nodes buckets)
+    ∷ refuses Short (isShort (t .header) lengths)
     ∷ refuses NoWorker (leb (t .header .w) (t .number))
     ∷ refuses NoKind (ltb kind INSERT || ltb DELETE kind)
     ∷ refuses KeyAbove (ltb KEY-LIMIT key)
@@ -39,33 +40,32 @@ startVerdict t kind key nodes buckets =
 -- starting is private: it sets the busy bit and the record
 abbrev pub startedBy : Turn → ℕ → ℕ → Verdict → Outcome
 startedBy t kind key (Refused a) = refusedWith a t
-startedBy t kind key Pass =
-    record { answer = Going; steps = 0; header = busied (raised (t .number) (t .header .busy)) (t .header); worker = begun kind key }
+startedBy t kind key Pass = handedBack Going (busied (raised (t .number) (t .header .busy)) (t .header)) (begun kind key)
 
 -- of the lent tables a start looks at their lengths alone, and it writes neither
-unfoldable pub startOf : Turn → ℕ → ℕ → ℕ → ℕ → Outcome
-startOf t kind key nodes buckets = startedBy t kind key (startVerdict t kind key nodes buckets)
+unfoldable pub startOf : Turn → ℕ → ℕ → Lengths → Outcome
+startOf t kind key lengths = startedBy t kind key (startVerdict t kind key lengths)
 
 -- ---- stepping: 12, 11, 13, 12, 16; then the words read (12), 18 or 19
-unfoldable pub stepVerdict : Turn → ℕ → ℕ → Verdict
-stepVerdict t nodes buckets =
+unfoldable pub stepVerdict : Turn → Lengths → Verdict
+stepVerdict t lengths =
     firstOf
     (refuses Damaged (headerDamaged (t .header))
-    ∷ refuses Short (isShort (t .header) nodes buckets)
+    ∷ refuses Short (isShort (t .header) lengths)
     ∷ refuses NoWorker (leb (t .header .w) (t .number))
     ∷ refuses Damaged (workerDamaged (t .header) (t .number) (t .worker))
     ∷ refuses IsIdle (eqb (t .worker .place) IDLE)
     ∷ [])
     Pass
 
-abbrev pub steppedBy : Turn → List ℕ → List ℕ → Verdict → After
-steppedBy t ns bs (Refused a) = after (refusedWith a t) ns bs
-steppedBy t ns bs Pass = carried t (decided (seenBy t ns bs)) ns bs
+abbrev pub steppedBy : Turn → Tables → Verdict → Left Outcome
+steppedBy t ts (Refused a) = left (refusedWith a t) ts
+steppedBy t ts Pass = carried t (decided (seenBy t ts)) ts
 
-unfoldable pub stepOf : Turn → List ℕ → List ℕ → After
-stepOf t ns bs = steppedBy t ns bs (stepVerdict t (length ns) (length bs))
+unfoldable pub stepOf : Turn → Tables → Left Outcome
+stepOf t ts = steppedBy t ts (stepVerdict t (lengths ts))
 
--- ---- either call, by what the turn is asked for
-abbrev pub askedOf : Turn → Ask → List ℕ → List ℕ → After
-askedOf t (Start kind key) ns bs = after (startOf t kind key (length ns) (length bs)) ns bs
-askedOf t Step ns bs = stepOf t ns bs
+-- ---- either call
+abbrev pub askedOf : Turn → Call → Tables → Left Outcome
+askedOf t (Start kind key) ts = left (startOf t kind key (lengths ts)) ts
+askedOf t Step ts = stepOf t ts

@@ -5,8 +5,9 @@ use mathlib.Core.List.{List}
 use mathlib.Core.Logic.{_⊎_, _≢_}
 use mathlib.Core.Path.{_≡_}
 use lib.Dec.{eqb}
-use lib.ListN.{length, getD}
+use lib.ListN.{getD}
 use Rattle.choice.specs.Choice.{pick}
+use Rattle.words.specs.Words.{Tables, lengths}
 use Rattle.names.specs.Names.{F1, L2, I8, I9, D4B, D6, KEY, EXTRA, INSERT, FIND, DELETE}
 use Rattle.names.specs.declared.Answer.{Answer}
 use Rattle.names.specs.declared.Answer.the-variants.{Yes, No}
@@ -50,8 +51,8 @@ stepping t (Refused a) m = nothing
 stepping t Pass m = taking (t .worker) m
 
 -- what takes effect in one step; nothing in a refused one
-abbrev pub eventOf : Turn → List ℕ → List ℕ → Event
-eventOf t ns bs = stepping t (stepVerdict t (length ns) (length bs)) (decided (seenBy t ns bs))
+abbrev pub eventOf : Turn → Tables → Event
+eventOf t ts = stepping t (stepVerdict t (lengths ts)) (decided (seenBy t ts))
 
 -- ---- what an event does to a set of keys
 -- a key is added where it is absent, and removed where it is present

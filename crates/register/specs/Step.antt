@@ -1,24 +1,22 @@
--- One step: look at one shared word, decide, and carry the decision out. The shared part is handed the value of the bucket that the place asks for, and
--- says what is to be stored; the flat part reads it from a table of bucket words, and stores it there.
+-- One step: look at one shared word, decide, and carry the decision out. What is shared by every layout of the buckets is handed the value of the bucket
+-- that the place asks for, and says what is to be stored; over a table of bucket words the value is read there, and stored there.
 use Prim.Native.Nat.{ℕ, _+_, _<_}
 use mathlib.Core.List.{List}
 use lib.Dec.{eqb}
 use Rattle.choice.specs.Choice.{pick}
 use Rattle.tree.specs.Tree.{parentOf}
-use Rattle.words.specs.Words.{SPLIT-KEY, LINK, word, bucket, store}
+use Rattle.words.specs.Words.{Tables, Left, SPLIT-KEY, LINK, word, bucket}
 use Rattle.scans.specs.Scans.{lowest}
 use Rattle.names.specs.Names.{I1, TB, B2, B4, F1, F2, F3, F4, L2, D4A, D4B}
 use Rattle.names.specs.declared.Answer.{Answer}
 use Rattle.header.specs.declared.Header.{Header}
 use Rattle.header.specs.Header.{nodesOf, dummiesOf}
 use Rattle.moves.specs.declared.Seen.{Seen}
-use Rattle.acts.specs.declared.Effect.{Effect}
+use Rattle.record.specs.declared.Worker.{Worker}
 use Rattle.acts.specs.declared.Move.{Move}
-use Rattle.writes.specs.declared.Outcome.{Outcome}
-use Rattle.writes.specs.declared.Stores.{Stores}
-use Rattle.writes.specs.declared.Stores.the-variants.{None, Into}
-use Rattle.writes.specs.Writes.{storedBy}
-use Rattle.writes.specs.Carry.{After, after, handedBack, closedBy, Carried, carriedBy, storeOf}
+use Rattle.acts.specs.declared.Outcome.{Outcome}
+use Rattle.acts.specs.Acts.{handedBack}
+use Rattle.writes.specs.Carry.{closedBy, outcomeOf, nodesLeft, carriedBy}
 use Rattle.register.specs.declared.Turn.{Turn}
 
 -- the header's numbers are small enough to add
@@ -58,40 +56,31 @@ abbrev pub seenWith : Turn → List ℕ → ℕ → Seen
 seenWith t ns v = record { header = t .header; worker = t .worker; word = wordWith t ns v; split = splitFor t ns }
 
 -- the bucket whose value the place asks for: TB and B2 alone ask for one
-unfoldable pub askedBucket : Turn → ℕ
-askedBucket t = pick (eqb (t .worker .place) TB) (t .worker .wanted) (pick (eqb (t .worker .place) B2) (parentOf (t .worker .making)) 0)
+unfoldable pub askedAt : ℕ → Worker → ℕ
+askedAt p x = pick (eqb p TB) (x .wanted) (pick (eqb p B2) (parentOf (x .making)) 0)
 
--- ---- the worker's decision carried out, and its operation closed, up to the last node
-abbrev pub carriedOn : Turn → Move → List ℕ → Carried
-carriedOn t d ns = carriedBy (nodesOf (t .header)) (t .number) (t .header) (t .worker) d ns
+unfoldable pub askedBucket : Turn → ℕ
+askedBucket t = askedAt (t .worker .place) (t .worker)
+
+-- ---- the worker's decision carried out: what it hands back, and what it leaves in the nodes, its operation closed up to the last node
+abbrev pub handsBack : Turn → Move → Outcome
+handsBack t d = outcomeOf (t .number) (t .header) (t .worker) d
+
+abbrev pub leavesNodes : Turn → Move → List ℕ → List ℕ
+leavesNodes t d ns = nodesLeft (nodesOf (t .header)) (t .number) (t .worker) d ns
 
 abbrev pub closed : Turn → List ℕ → List ℕ
 closed t ns = closedBy (nodesOf (t .header)) (t .number) (t .worker) ns
 
--- ---- over a table of bucket words
--- the value of the bucket asked for; no bucket is read where none is asked for
-unfoldable pub bucketAt : ℕ → Turn → List ℕ → ℕ
-bucketAt p t bs = pick (eqb p TB) (bucket bs (t .worker .wanted)) (pick (eqb p B2) (bucket bs (parentOf (t .worker .making))) 0)
+-- ---- over a table of bucket words: a bucket's value is its word
+unfoldable pub wordAt : ℕ → Turn → Tables → ℕ
+wordAt p t ts = wordGiven p t (ts .nodes) (bucket (ts .buckets) (askedAt p (t .worker)))
 
-unfoldable pub bucketFor : Turn → List ℕ → ℕ
-bucketFor t bs = bucketAt (t .worker .place) t bs
+unfoldable pub wordFor : Turn → Tables → ℕ
+wordFor t ts = wordAt (t .worker .place) t ts
 
-unfoldable pub wordAt : ℕ → Turn → List ℕ → List ℕ → ℕ
-wordAt p t ns bs = wordGiven p t ns (bucketAt p t bs)
+abbrev pub seenBy : Turn → Tables → Seen
+seenBy t ts = record { header = t .header; worker = t .worker; word = wordFor t ts; split = splitFor t (ts .nodes) }
 
-unfoldable pub wordFor : Turn → List ℕ → List ℕ → ℕ
-wordFor t ns bs = wordAt (t .worker .place) t ns bs
-
-abbrev pub seenBy : Turn → List ℕ → List ℕ → Seen
-seenBy t ns bs = record { header = t .header; worker = t .worker; word = wordFor t ns bs; split = splitFor t ns }
-
--- what is to be stored, stored
-abbrev pub storedIn : Stores → List ℕ → List ℕ
-storedIn None bs = bs
-storedIn (Into b n) bs = store bs b n
-
-abbrev pub bucketsAfter : Effect → List ℕ → List ℕ
-bucketsAfter e bs = storedIn (storedBy e) bs
-
-abbrev pub carried : Turn → Move → List ℕ → List ℕ → After
-carried t d ns bs = let c = carriedOn t d ns in after (c .out) (c .nodes) (storedIn (storeOf d) bs)
+abbrev pub carried : Turn → Move → Tables → Left Outcome
+carried t d ts = carriedBy (nodesOf (t .header)) (t .number) (t .header) (t .worker) d ts

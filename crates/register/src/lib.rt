@@ -2,11 +2,13 @@
 ghost use mathlib.Core.Path.{_≡_};
 ghost use Rattle.record.specs.Worker.{begun};
 ghost use Rattle.moves.specs.Moves.{decided};
-ghost use Rattle.writes.specs.Carry.{after};
+ghost use Rattle.words.specs.Words.{tables, left};
 ghost use Rattle.register.specs.Calls.{startedBy, steppedBy, askedOf};
 ghost use Rattle.register.specs.Parts.{callVerdict, askVerdict, openVerdict, busyVerdict, idleVerdict};
-ghost use Rattle.register.specs.Step.{refusedWith, Small, wordWith, splitFor, seenWith, bucketFor, storedIn};
+ghost use Rattle.register.specs.Step.{refusedWith, Small, wordFor, splitFor, seenBy};
+use acts::Called;
 use acts::Move;
+use acts::Outcome;
 use header::Header;
 use moves::Seen;
 use names::Answer;
@@ -14,11 +16,10 @@ use names::Verdict;
 use names::kind;
 use names::place;
 use record::Worker;
-use writes::Outcome;
-use writes::Stores;
+use words::Lengths;
 
-// What a turn is asked for.
-pub enum Ask {
+// What a worker is called for.
+pub enum Call {
     // An operation of this kind on this key starts.
     Start { kind: u32, key: u32 },
     // One step of the operation that is under way.
@@ -43,11 +44,11 @@ fn begun(kind: u32, key: u32) -> Worker
 }
 
 // 17, 14: a start of an unknown kind, or on a key above the limit.
-fn asked(ask: Ask) -> Verdict
-    ensures { λ r. ⌜ r ≡ askVerdict ask ⌝ }
+fn asked(call: Call) -> Verdict
+    ensures { λ r. ⌜ r ≡ askVerdict call ⌝ }
 {
-    match ask {
-        Ask::Start { kind, key } => {
+    match call {
+        Call::Start { kind, key } => {
             if (kind < kind::INSERT) | (kind::DELETE < kind) {
                 return Verdict::Refused(Answer::NoKind);
             }
@@ -56,19 +57,7 @@ fn asked(ask: Ask) -> Verdict
             }
             Verdict::Pass
         }
-        Ask::Step => Verdict::Pass,
-    }
-}
-
-// What is to be stored in the buckets is stored.
-fn keep(stores: Stores, buckets: &mut [u32])
-    ensures { λ _. ⌜ now (buckets .exit) ≡ storedIn stores (now (buckets .entry)) ⌝ }
-{
-    match stores {
-        Stores::None => {}
-        Stores::Into { bucket, node } => {
-            words::store(buckets, bucket, node);
-        }
+        Call::Step => Verdict::Pass,
     }
 }
 
@@ -79,22 +68,18 @@ impl Turn {
     {
         let header = self.header;
         let worker = self.worker;
-        Outcome {
-            answer,
-            steps: 0,
-            header,
-            worker,
-        }
+        let called = Called::answered(answer, header);
+        Outcome { called, worker }
     }
 
     // 12, 11, 13: what a start and a step check first.
-    fn call_verdict(self, nodes: usize, buckets: usize) -> Verdict
-        ensures { λ r. ⌜ r ≡ callVerdict self nodes buckets ⌝ }
+    fn call_verdict(self, lengths: Lengths) -> Verdict
+        ensures { λ r. ⌜ r ≡ callVerdict self lengths ⌝ }
     {
         if self.header.damaged() {
             return Verdict::Refused(Answer::Damaged);
         }
-        if self.header.short(nodes, buckets) {
+        if self.header.short(lengths) {
             return Verdict::Refused(Answer::Short);
         }
         if self.header.w <= self.number {
@@ -104,14 +89,14 @@ impl Turn {
     }
 
     // Then a start's 17 and 14, and 12: all that is checked before the record is asked whether it is idle.
-    fn verdict(self, ask: Ask, nodes: usize, buckets: usize) -> Verdict
-        ensures { λ r. ⌜ r ≡ openVerdict self ask nodes buckets ⌝ }
+    fn verdict(self, call: Call, lengths: Lengths) -> Verdict
+        ensures { λ r. ⌜ r ≡ openVerdict self call lengths ⌝ }
     {
-        let first = self.call_verdict(nodes, buckets);
+        let first = self.call_verdict(lengths);
         if let Verdict::Refused(answer) = first {
             return Verdict::Refused(answer);
         }
-        let then = asked(ask);
+        let then = asked(call);
         if let Verdict::Refused(answer) = then {
             return Verdict::Refused(answer);
         }
@@ -131,37 +116,21 @@ impl Turn {
         let mut header = self.header;
         header.busy = sets::with_bit(header.busy, self.number);
         let worker = begun(kind, key);
-        Outcome {
-            answer: Answer::Going,
-            steps: 0,
-            header,
-            worker,
-        }
+        let called = Called::answered(Answer::Going, header);
+        Outcome { called, worker }
     }
 
-    // The value of the bucket that the step asks for at its place: TB and B2 alone ask for one.
-    fn bucket_for(self, buckets: &[u32]) -> u32
-        ensures { λ r. ⌜ r ≡ bucketFor self (now (buckets .entry)) ⌝ }
-    {
-        let place = self.worker.place;
-        match place {
-            place::TB => words::bucket(buckets, self.worker.wanted),
-            place::B2 => words::bucket(buckets, tree::parent(self.worker.making)),
-            _ => 0,
-        }
-    }
-
-    // The one shared word that the step reads at its place, where value is that of the bucket that it asks for, or the node that it found free.
-    fn word_for(self, nodes: &[u32], value: u32) -> u32
+    // The one shared word that the step reads at its place, or the node that it found free.
+    fn word_for(self, nodes: &[u32], buckets: &[u32]) -> u32
         requires { ⌜ Small (self .header) ⌝ }
-        ensures { λ r. ⌜ r ≡ wordWith self (now (nodes .entry)) value ⌝ }
+        ensures { λ r. ⌜ r ≡ wordFor self (tables (now (nodes .entry)) (now (buckets .entry))) ⌝ }
     {
         let dummies = self.header.m + self.header.w;
         let place = self.worker.place;
         match place {
             place::I1 => scans::lowest(nodes, dummies + 1, dummies + self.header.k),
-            place::TB => value,
-            place::B2 => value,
+            place::TB => words::bucket(buckets, self.worker.wanted),
+            place::B2 => words::bucket(buckets, tree::parent(self.worker.making)),
             place::B4 => scans::lowest(nodes, 1, dummies),
             place::F1 => words::word(nodes, self.worker.start, words::LINK),
             place::F2 => words::word(nodes, self.worker.cur, words::LINK),
@@ -185,11 +154,11 @@ impl Turn {
     }
 
     // What the step sees.
-    fn look(self, nodes: &[u32], value: u32) -> Seen
+    fn look(self, nodes: &[u32], buckets: &[u32]) -> Seen
         requires { ⌜ Small (self .header) ⌝ }
-        ensures { λ r. ⌜ r ≡ seenWith self (now (nodes .entry)) value ⌝ }
+        ensures { λ r. ⌜ r ≡ seenBy self (tables (now (nodes .entry)) (now (buckets .entry))) ⌝ }
     {
-        let word = self.word_for(nodes, value);
+        let word = self.word_for(nodes, buckets);
         let split = self.split_for(nodes);
         let header = self.header;
         let worker = self.worker;
@@ -202,41 +171,42 @@ impl Turn {
     }
 
     // What the step decides: the shared word is read, and the place's own lines are followed.
-    fn decision(self, nodes: &[u32], value: u32) -> Move
+    fn decision(self, nodes: &[u32], buckets: &[u32]) -> Move
         requires { ⌜ Small (self .header) ⌝ }
-        ensures { λ r. ⌜ r ≡ decided (seenWith self (now (nodes .entry)) value) ⌝ }
+        ensures { λ r. ⌜ r ≡ decided (seenBy self (tables (now (nodes .entry)) (now (buckets .entry)))) ⌝ }
     {
-        self.look(nodes, value).decide()
+        self.look(nodes, buckets).decide()
     }
 
     // 16, or one shared access with the private work that follows: the decision is made, and carried out.
     fn act(self, nodes: &mut [u32], buckets: &mut [u32]) -> Outcome
         requires { ⌜ Small (self .header) ⌝ }
-        ensures { λ r. ⌜ after r (now (nodes .exit)) (now (buckets .exit)) ≡ steppedBy self (now (nodes .entry)) (now (buckets .entry)) (idleVerdict self) ⌝ }
+        ensures { λ r. ⌜ left r (tables (now (nodes .exit)) (now (buckets .exit))) ≡ steppedBy self (tables (now (nodes .entry)) (now (buckets .entry))) (idleVerdict self) ⌝ }
     {
         if self.worker.place == place::IDLE {
             return self.refused(Answer::IsIdle);
         }
-        let value = self.bucket_for(&buckets[..]);
-        let decision = self.decision(&nodes[..], value);
+        let decision = self.decision(&nodes[..], &buckets[..]);
         let h = self.header;
         let x = self.worker;
-        let outcome = writes::carry(h.m + h.w + h.k, self.number, h, x, decision, nodes);
-        keep(writes::store_of(decision), buckets);
-        outcome
+        writes::carry(h.m + h.w + h.k, self.number, h, x, decision, nodes, buckets)
     }
 
     // One call of a worker: refused, or what it is asked for.
-    pub fn call(self, ask: Ask, nodes: &mut [u32], buckets: &mut [u32]) -> Outcome
-        ensures { λ r. ⌜ after r (now (nodes .exit)) (now (buckets .exit)) ≡ askedOf self ask (now (nodes .entry)) (now (buckets .entry)) ⌝ }
+    pub fn call(self, call: Call, nodes: &mut [u32], buckets: &mut [u32]) -> Outcome
+        ensures { λ r. ⌜ left r (tables (now (nodes .exit)) (now (buckets .exit))) ≡ askedOf self call (tables (now (nodes .entry)) (now (buckets .entry))) ⌝ }
     {
-        let verdict = self.verdict(ask, nodes.len(), buckets.len());
+        let lengths = Lengths {
+            nodes: nodes.len(),
+            buckets: buckets.len(),
+        };
+        let verdict = self.verdict(call, lengths);
         if let Verdict::Refused(answer) = verdict {
             return self.refused(answer);
         }
-        match ask {
-            Ask::Start { kind, key } => self.begin(kind, key),
-            Ask::Step => self.act(nodes, buckets),
+        match call {
+            Call::Start { kind, key } => self.begin(kind, key),
+            Call::Step => self.act(nodes, buckets),
         }
     }
 }

@@ -4,10 +4,31 @@ use Prim.Native.Nat.{ℕ, zero, suc, _+_, _-_, _*_, _%_}
 use mathlib.Core.Bool.{Bool}
 use mathlib.Core.List.{List}
 use lib.Dec.{eqb}
-use lib.ListN.{getD, set}
+use lib.ListN.{length, getD, set}
 use Rattle.choice.specs.Choice.{pick}
+use Rattle.words.specs.declared.Lengths.{Lengths}
 
--- the three words of a node
+-- ---- what is lent beside header and records
+pub record Tables : Type 0 where
+  pub nodes : List ℕ
+  pub buckets : List ℕ
+
+abbrev pub tables : List ℕ → List ℕ → Tables
+tables ns bs = record { nodes = ns; buckets = bs }
+
+-- how many words each table has
+abbrev pub lengths : Tables → Lengths
+lengths ts = record { nodes = length (ts .nodes); buckets = length (ts .buckets) }
+
+-- all that a call leaves: what it hands back, and the lent tables
+pub record Left (A : Type 0) : Type 0 where
+  pub out : A
+  pub tables : Tables
+
+abbrev pub left : {A : Type 0} → A → Tables → Left A
+left o ts = record { out = o; tables = ts }
+
+-- ---- the three words of a node
 abbrev pub SPLIT-KEY : ℕ
 SPLIT-KEY = 0
 

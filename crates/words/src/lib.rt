@@ -15,6 +15,12 @@ pub const TAKEN: u32 = 2147483648;
 // The largest standing that is a set of workers waited for.
 pub const LARGEST_SET: u32 = 65535;
 
+// How many words each lent table has.
+pub struct Lengths {
+    pub nodes: usize,
+    pub buckets: usize,
+}
+
 // Word `which` of node n: its split key, its link or its standing.
 pub fn word(nodes: &[u32], n: u32, which: u32) -> u32
     ensures { λ r. ⌜ r ≡ word (now (nodes .entry)) n which ⌝ }

@@ -2,13 +2,16 @@
 use Prim.Native.Nat.{ℕ}
 use mathlib.Core.Bool.{Bool, true, false}
 use mathlib.Core.List.{List}
-use Rattle.words.specs.Words.{SPLIT-KEY, LINK, STANDING, TAKEN, put, linkTo}
+use Rattle.words.specs.Words.{Tables, tables, SPLIT-KEY, LINK, STANDING, TAKEN, put, store, linkTo}
 use Rattle.header.specs.declared.Header.{Header}
 use Rattle.header.specs.Header.{sized, counted}
 use Rattle.acts.specs.declared.Effect.{Effect}
 use Rattle.acts.specs.declared.Effect.the-variants.{Nothing, Take, Free, Aim, Place, Mark, Unlink, Store, Count, Size}
-use Rattle.writes.specs.declared.Stores.{Stores}
-use Rattle.writes.specs.declared.Stores.the-variants.{None, Into}
+
+-- what is to be stored in the buckets: nothing, or a node in a bucket
+pub data Stores : Type 0 where
+  none : Stores
+  into : (bucket node : ℕ) → Stores
 
 -- the step reads, and writes nothing
 abbrev pub isNothing : Effect → Bool
@@ -35,18 +38,18 @@ nodesAfter (Store b n) ns = ns
 nodesAfter (Count v) ns = ns
 nodesAfter (Size v) ns = ns
 
--- what is to be stored in the buckets: nothing, or a node in a bucket
+-- a bucket is stored by B8 alone
 abbrev pub storedBy : Effect → Stores
-storedBy Nothing = None
-storedBy (Take n split) = None
-storedBy (Free n) = None
-storedBy (Aim n next) = None
-storedBy (Place n next prev) = None
-storedBy (Mark n next) = None
-storedBy (Unlink prev next n busy) = None
-storedBy (Store b n) = Into b n
-storedBy (Count v) = None
-storedBy (Size v) = None
+storedBy Nothing = none
+storedBy (Take n split) = none
+storedBy (Free n) = none
+storedBy (Aim n next) = none
+storedBy (Place n next prev) = none
+storedBy (Mark n next) = none
+storedBy (Unlink prev next n busy) = none
+storedBy (Store b n) = into b n
+storedBy (Count v) = none
+storedBy (Size v) = none
 
 abbrev pub headerAfter : Effect → Header → Header
 headerAfter Nothing h = h
@@ -59,3 +62,11 @@ headerAfter (Unlink prev next n busy) h = h
 headerAfter (Store b n) h = h
 headerAfter (Count v) h = counted v h
 headerAfter (Size v) h = sized v h
+
+-- ---- over a table of bucket words
+abbrev pub storedIn : Stores → List ℕ → List ℕ
+storedIn none bs = bs
+storedIn (into b n) bs = store bs b n
+
+abbrev pub tablesAfter : Effect → Tables → Tables
+tablesAfter e ts = tables (nodesAfter e (ts .nodes)) (storedIn (storedBy e) (ts .buckets))

@@ -1,29 +1,17 @@
-// A decision carried out: what a step's write leaves in the lent nodes and in the header, and at an ended answer the operation closed. What it stores in
-// the buckets it says, and whoever knows how the buckets lie stores it.
+// A decision carried out: what a step's write leaves in the lent tables and in the header, and at an ended answer the operation closed.
 ghost use mathlib.Core.Path.{_≡_};
-ghost use Rattle.words.specs.Words.{LINK, put, linkWord, linkTo};
-ghost use Rattle.writes.specs.Writes.{isNothing, nodesAfter, headerAfter, storedBy};
-ghost use Rattle.writes.specs.Carry.{carriedOut, handedBack, tick, going, closedBy, ending, carriedBy, storeOf};
+ghost use Rattle.words.specs.Words.{tables, left, LINK, put, linkWord, linkTo};
+ghost use Rattle.acts.specs.Acts.{handedBack};
+ghost use Rattle.writes.specs.Writes.{isNothing, tablesAfter, headerAfter};
+ghost use Rattle.writes.specs.Carry.{tick, onward, closedBy, ending, carriedBy};
+use acts::Called;
 use acts::Effect;
 use acts::Move;
+use acts::Outcome;
 use header::Header;
 use names::Answer;
 use names::place;
 use record::Worker;
-
-// What a start or a step hands back; an ended answer gives the operation's steps.
-pub struct Outcome {
-    pub answer: Answer,
-    pub steps: u32,
-    pub header: Header,
-    pub worker: Worker,
-}
-
-// What a decision asks to be stored in the buckets.
-pub enum Stores {
-    None,
-    Into { bucket: u32, node: u32 },
-}
 
 // A link as one word: twice the number of the next node, and the mark. What passes 32 bits is cut.
 fn link_word(next: u32, mark: u32) -> u32
@@ -60,9 +48,9 @@ fn nothing(effect: Effect) -> bool
     }
 }
 
-// The write of a step, in the nodes.
-fn write(effect: Effect, nodes: &mut [u32])
-    ensures { λ _. ⌜ now (nodes .exit) ≡ nodesAfter effect (now (nodes .entry)) ⌝ }
+// The write of a step, in the tables.
+fn write(effect: Effect, nodes: &mut [u32], buckets: &mut [u32])
+    ensures { λ _. ⌜ tables (now (nodes .exit)) (now (buckets .exit)) ≡ tablesAfter effect (tables (now (nodes .entry)) (now (buckets .entry))) ⌝ }
 {
     match effect {
         Effect::Nothing => {}
@@ -92,7 +80,9 @@ fn write(effect: Effect, nodes: &mut [u32])
             aim(nodes, prev, next, false);
             words::put(nodes, node, words::STANDING, busy);
         }
-        Effect::Store { bucket: _, node: _ } => {}
+        Effect::Store { bucket, node } => {
+            words::store(buckets, bucket, node);
+        }
         Effect::Count { value: _ } => {}
         Effect::Size { value: _ } => {}
     }
@@ -142,31 +132,22 @@ fn tick(steps: u32) -> u32
     steps
 }
 
-// Header and record as they came, with an answer that changes nothing.
+// Header and record, with an answer that tells no steps.
 fn handed_back(answer: Answer, header: Header, worker: Worker) -> Outcome
     ensures { λ r. ⌜ r ≡ handedBack answer header worker ⌝ }
 {
-    Outcome {
-        answer,
-        steps: 0,
-        header,
-        worker,
-    }
+    let called = Called::answered(answer, header);
+    Outcome { called, worker }
 }
 
 // The operation goes on: the step is counted in the record.
-fn going(worker: Worker, effect: Effect, header: Header) -> Outcome
-    ensures { λ r. ⌜ r ≡ going worker effect header ⌝ }
+fn onward(worker: Worker, effect: Effect, header: Header) -> Outcome
+    ensures { λ r. ⌜ r ≡ onward worker effect header ⌝ }
 {
     let header = written(effect, header);
     let mut worker = worker;
     worker.steps = tick(worker.steps);
-    Outcome {
-        answer: Answer::Going,
-        steps: 0,
-        header,
-        worker,
-    }
+    handed_back(Answer::Going, header, worker)
 }
 
 // At an ended answer the nodes still held are free, and the worker's bit leaves each standing that is a set.
@@ -186,50 +167,12 @@ fn ending(number: u32, header: Header, steps: u32, answer: Answer, effect: Effec
     let mut header = written(effect, header);
     header.busy = sets::without(header.busy, number);
     let worker = Worker::fresh(place::IDLE, 0, 0);
-    Outcome {
+    let called = Called {
         answer,
         steps: tick(steps),
         header,
-        worker,
-    }
-}
-
-// The write of a step, in the buckets.
-fn stored(effect: Effect) -> Stores
-    ensures { λ r. ⌜ r ≡ storedBy effect ⌝ }
-{
-    match effect {
-        Effect::Store { bucket, node } => Stores::Into { bucket, node },
-        Effect::Nothing => Stores::None,
-        Effect::Take { node: _, split: _ } => Stores::None,
-        Effect::Free { node: _ } => Stores::None,
-        Effect::Aim { node: _, next: _ } => Stores::None,
-        Effect::Place {
-            node: _,
-            next: _,
-            prev: _,
-        } => Stores::None,
-        Effect::Mark { node: _, next: _ } => Stores::None,
-        Effect::Unlink {
-            prev: _,
-            next: _,
-            node: _,
-            busy: _,
-        } => Stores::None,
-        Effect::Count { value: _ } => Stores::None,
-        Effect::Size { value: _ } => Stores::None,
-    }
-}
-
-// What a decision asks to be stored in the buckets.
-pub fn store_of(decision: Move) -> Stores
-    ensures { λ r. ⌜ r ≡ storeOf decision ⌝ }
-{
-    match decision {
-        Move::Damaged => Stores::None,
-        Move::Going { worker: _, effect } => stored(effect),
-        Move::Ended { answer: _, effect } => stored(effect),
-    }
+    };
+    Outcome { called, worker }
 }
 
 // A decision is carried out, in a register whose last node is `last`; damaged words change nothing.
@@ -240,8 +183,9 @@ pub fn carry(
     worker: Worker,
     decision: Move,
     nodes: &mut [u32],
+    buckets: &mut [u32],
 ) -> Outcome
-    ensures { λ r. ⌜ carriedOut r (now (nodes .exit)) ≡ carriedBy last number header worker decision (now (nodes .entry)) ⌝ }
+    ensures { λ r. ⌜ left r (tables (now (nodes .exit)) (now (buckets .exit))) ≡ carriedBy last number header worker decision (tables (now (nodes .entry)) (now (buckets .entry))) ⌝ }
 {
     match decision {
         Move::Damaged => handed_back(Answer::Damaged, header, worker),
@@ -250,13 +194,13 @@ pub fn carry(
             effect,
         } => {
             if nothing(effect) {
-                return going(next, effect, header);
+                return onward(next, effect, header);
             }
-            write(effect, nodes);
-            going(next, effect, header)
+            write(effect, nodes, buckets);
+            onward(next, effect, header)
         }
         Move::Ended { answer, effect } => {
-            write(effect, nodes);
+            write(effect, nodes, buckets);
             close(last, number, worker, nodes);
             ending(number, header, worker.steps, answer, effect)
         }

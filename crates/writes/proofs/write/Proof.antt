@@ -1,5 +1,6 @@
 -- Each arm is its effect's own clause.
 -- Assumes nothing.
+use mathlib.Core.Path.{refl}
 use borrow.Author.Needs.{needs}
 use Rattle.writes.proofs.write.Statement.{statement}
 use Rattle.writes.proofs.write.Tie as tie
@@ -52,17 +53,20 @@ aim-requires-5 c κs = tt
 put-requires-4 : tie.Need-put-requires-4
 put-requires-4 c κs = tt
 
+enum-known-effect-7 : tie.Need-enum-known-effect-7
+enum-known-effect-7 c = search needs
+
+store-requires : tie.Need-store-requires
+store-requires c κs = tt
+
 enum-told-2 : tie.Need-enum-told-2
 enum-told-2 c = search needs
 
 enum-told-3 : tie.Need-enum-told-3
 enum-told-3 c = search needs
 
-enum-told-4 : tie.Need-enum-told-4
-enum-told-4 c = search needs
-
 returns : tie.Need-returns
-returns c = search needs
+returns c = rw (c .enum-told .given .1)
 
 same-length : tie.Need-same-length
 same-length c = search needs
@@ -74,13 +78,13 @@ same-length-2 : tie.Need-same-length-2
 same-length-2 c = search needs
 
 returns-3 : tie.Need-returns-3
-returns-3 c = rw (c .before .before .before .before .before .effect2 .given .1) (c .before .before .put3 .ensures)
+returns-3 c = rw (c .before .before .before .before .before .effect2 .given .1) (rw (c .before .before .put3 .ensures))
 
 same-length-3 : tie.Need-same-length-3
 same-length-3 c = search needs
 
 returns-4 : tie.Need-returns-4
-returns-4 c = rw (c .before .before .before .before .before .effect3 .given .1) (c .before .before .aim .ensures)
+returns-4 c = rw (c .before .before .before .before .before .effect3 .given .1) (rw (c .before .before .aim .ensures))
 
 same-length-4 : tie.Need-same-length-4
 same-length-4 c = search needs
@@ -92,7 +96,7 @@ same-length-5 : tie.Need-same-length-5
 same-length-5 c = search needs
 
 returns-6 : tie.Need-returns-6
-returns-6 c = rw (c .before .before .before .before .before .effect5 .given .1) (c .before .before .aim4 .ensures)
+returns-6 c = rw (c .before .before .before .before .before .effect5 .given .1) (rw (c .before .before .aim4 .ensures))
 
 same-length-6 : tie.Need-same-length-6
 same-length-6 c = search needs
@@ -100,14 +104,17 @@ same-length-6 c = search needs
 returns-7 : tie.Need-returns-7
 returns-7 c = rw (c .before .before .before .before .before .before .before .before .before .effect6 .given .1) (rw (c .before .before .put4 .ensures, c .before .before .before .before .before .before .aim5 .ensures))
 
+same-length-7 : tie.Need-same-length-7
+same-length-7 c = search needs
+
 returns-8 : tie.Need-returns-8
-returns-8 c = search needs
+returns-8 c = rw (c .before .before .before .before .before .effect7 .given .1) (rw (c .before .before .store .ensures))
 
 returns-9 : tie.Need-returns-9
-returns-9 c = search needs
+returns-9 c = rw (c .enum-told2 .given .1)
 
 returns-10 : tie.Need-returns-10
-returns-10 c = search needs
+returns-10 c = rw (c .enum-told3 .given .1)
 
 pub write-spec : {M : Type 1} → statement M
 write-spec =
@@ -129,9 +136,10 @@ write-spec =
     enum-known-effect-6
     aim-requires-5
     put-requires-4
+    enum-known-effect-7
+    store-requires
     enum-told-2
     enum-told-3
-    enum-told-4
     returns
     same-length
     returns-2
@@ -145,6 +153,7 @@ write-spec =
     returns-6
     same-length-6
     returns-7
+    same-length-7
     returns-8
     returns-9
     returns-10)

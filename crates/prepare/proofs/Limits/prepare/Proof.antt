@@ -16,6 +16,9 @@ verdict-requires c κs = tt
 enum-known-verdict : tie.Need-enum-known-verdict
 enum-known-verdict c = search needs
 
+answered-requires : tie.Need-answered-requires
+answered-requires c κs = tt
+
 enum-told : tie.Need-enum-told
 enum-told c = search needs
 
@@ -43,9 +46,12 @@ clear-requires-2 c κs = tt
 store-requires : tie.Need-store-requires
 store-requires c κs = tt
 
+answered-requires-2 : tie.Need-answered-requires-2
+answered-requires-2 c κs = tt
+
 returns : tie.Need-returns
 unfolding prepared
-returns c = rw (← c .before .before .before .verdict .ensures, c .before .verdict2 .given .1)
+returns c = rw (c .answered .ensures, ← c .before .before .before .before .verdict .ensures, c .before .before .verdict2 .given .1)
 
 same-length : tie.Need-same-length
 same-length c = search needs
@@ -56,10 +62,10 @@ same-length-2 c = search needs
 returns-2 : tie.Need-returns-2
 unfolding prepared
 returns-2 c =
-    let passed = sym (c .before .before .before .before .before .before .before .before .before .before .before .before .before .before .before .before .before .before .before .before .verdict .ensures) ∙ c .before .before .before .before .before .before .before .before .before .before .before .before .before .before .before .before .before .before .enum-told .given .1 in
-    let fresh = c .before .before .before .before .before .before .before .before .before .before .before .before .before .before .before .before .before .fresh-header .ensures in
-    let words : c .before .before .before .before .before .before .before .before .before .before .before .before .before .before .before .nodes .result * 3 % 4294967296 ≡ nodesOf (freshHeader (c .before .before .before .before .before .before .before .before .before .before .before .before .before .before .before .before .before .before .before .before .before .before .before .args .self)) * 3 = rw (c .before .before .before .before .before .before .before .before .before .before .before .before .before .before .before .nodes .ensures, fresh) (mod-eq-of-lt (prepare-small _ _ _ passed)) in
-    rw (passed, c .before .before .store .ensures, c .before .before .before .before .before .before .clear2 .ensures, c .before .before .before .before .before .before .before .before .before .before .put .ensures, c .before .before .before .before .before .before .before .before .before .before .before .before .before .before .clear .ensures, words, fresh)
+    let passed = sym (c .before .before .before .before .before .before .before .before .before .before .before .before .before .before .before .before .before .before .before .before .before .verdict .ensures) ∙ c .before .before .before .before .before .before .before .before .before .before .before .before .before .before .before .before .before .before .before .enum-told .given .1 in
+    let fresh = c .before .before .before .before .before .before .before .before .before .before .before .before .before .before .before .before .before .before .fresh-header .ensures in
+    let words : c .before .before .before .before .before .before .before .before .before .before .before .before .before .before .before .before .nodes .result * 3 % 4294967296 ≡ nodesOf (freshHeader (c .before .before .before .before .before .before .before .before .before .before .before .before .before .before .before .before .before .before .before .before .before .before .before .before .args .self)) * 3 = rw (c .before .before .before .before .before .before .before .before .before .before .before .before .before .before .before .before .nodes .ensures, fresh) (mod-eq-of-lt (prepare-small _ _ passed)) in
+    rw (c .answered2 .ensures, passed, c .before .before .before .store .ensures, c .before .before .before .before .before .before .before .clear2 .ensures, c .before .before .before .before .before .before .before .before .before .before .before .put .ensures, c .before .before .before .before .before .before .before .before .before .before .before .before .before .before .before .clear .ensures, words, fresh)
 
 pub prepare-spec : {M : Type 1} → statement M
 prepare-spec =
@@ -67,6 +73,7 @@ prepare-spec =
     (tie.spec
     verdict-requires
     enum-known-verdict
+    answered-requires
     enum-told
     fresh-header-requires
     nodes-requires
@@ -76,6 +83,7 @@ prepare-spec =
     put-requires
     clear-requires-2
     store-requires
+    answered-requires-2
     returns
     same-length
     same-length-2

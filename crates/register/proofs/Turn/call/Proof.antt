@@ -17,13 +17,13 @@ refused-requires : tie.Need-refused-requires
 refused-requires c κs = tt
 
 returns : tie.Need-returns
-returns c = rw (c .refused .ensures) (sym (refused-asked _ _ _ _ _ (sym (c .before .before .before .before .verdict .ensures) ∙ c .before .before .verdict2 .given .1)))
+returns c = rw (c .refused .ensures) (sym (refused-asked _ _ _ _ (sym (c .before .before .before .before .verdict .ensures) ∙ c .before .before .verdict2 .given .1)))
 
 enum-told : tie.Need-enum-told
 enum-told c = search needs
 
-enum-known-ask : tie.Need-enum-known-ask
-enum-known-ask c = search needs
+enum-known-call : tie.Need-enum-known-call
+enum-known-call c = search needs
 
 begin-requires : tie.Need-begin-requires
 begin-requires c κs = tt
@@ -32,13 +32,13 @@ enum-told-2 : tie.Need-enum-told-2
 enum-told-2 c = search needs
 
 act-requires : tie.Need-act-requires
-act-requires c κs = open-small _ _ _ _ (sym (c .before .before .before .before .before .before .verdict .ensures) ∙ c .before .before .before .before .enum-told .given .1)
+act-requires c κs = open-small _ _ _ (sym (c .before .before .before .before .before .before .verdict .ensures) ∙ c .before .before .before .before .enum-told .given .1)
 
 returns-2 : tie.Need-returns-2
 unfolding startOf
 returns-2 c =
-    let free = rw (c .before .before .ask .given .1) at (sym (c .before .before .before .before .before .before .verdict .ensures) ∙ c .before .before .before .before .enum-told .given .1) in
-    rw (c .before .before .ask .given .1, c .begin .ensures, start-follows, free)
+    let free = rw (c .before .before .call .given .1) at (sym (c .before .before .before .before .before .before .verdict .ensures) ∙ c .before .before .before .before .enum-told .given .1) in
+    rw (c .before .before .call .given .1, c .begin .ensures, start-follows, free)
 
 same-length : tie.Need-same-length
 same-length c = search needs
@@ -61,7 +61,7 @@ call-spec =
     refused-requires
     returns
     enum-told
-    enum-known-ask
+    enum-known-call
     begin-requires
     enum-told-2
     act-requires

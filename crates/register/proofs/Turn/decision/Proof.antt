@@ -4,7 +4,7 @@ use Rattle.register.proofs.Turn.decision.Statement.{statement}
 use Rattle.register.proofs.Turn.decision.Tie as tie
 
 look-requires : tie.Need-look-requires
-look-requires c κs = c .before .pre
+look-requires c κs = c .before .before .pre
 
 decide-requires : tie.Need-decide-requires
 decide-requires c κs = tt

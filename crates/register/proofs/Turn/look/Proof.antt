@@ -4,7 +4,7 @@ use Rattle.register.proofs.Turn.look.Statement.{statement}
 use Rattle.register.proofs.Turn.look.Tie as tie
 
 word-for-requires : tie.Need-word-for-requires
-word-for-requires c κs = c .before .pre
+word-for-requires c κs = c .before .before .pre
 
 split-for-requires : tie.Need-split-for-requires
 split-for-requires c κs = tt

@@ -1,7 +1,7 @@
 -- At a place that is known the definition is that place's.
 -- Assumes nothing.
 use mathlib.Core.Path.{refl, sym, _∙_}
-use Rattle.register.specs.Step.{wordWith, wordGiven}
+use Rattle.register.specs.Step.{wordGiven, askedAt, wordFor, wordAt}
 use Rattle.choice.specs.Choice.{pick}
 use borrow.Author.Tests.{ne-eqb}
 use Rattle.register.proofs.Laws.{here}
@@ -20,6 +20,15 @@ add-lowest-2 c = search needs
 
 lowest-requires : tie.Need-lowest-requires
 lowest-requires c κs = tt
+
+bucket-requires : tie.Need-bucket-requires
+bucket-requires c κs = tt
+
+parent-requires : tie.Need-parent-requires
+parent-requires c κs = tt
+
+bucket-requires-2 : tie.Need-bucket-requires-2
+bucket-requires-2 c κs = tt
 
 lowest-requires-2 : tie.Need-lowest-requires-2
 lowest-requires-2 c κs = tt
@@ -46,51 +55,51 @@ word-requires-7 : tie.Need-word-requires-7
 word-requires-7 c κs = tt
 
 returns : tie.Need-returns
-unfolding wordGiven pick
-returns c = c .lowest .ensures ∙ (here _ _ _ 1 (c .before .before .match .keys1))
+unfolding wordAt wordGiven askedAt pick
+returns c = c .lowest .ensures ∙ (here _ _ 1 (c .before .before .match .keys1))
 
 returns-2 : tie.Need-returns-2
-unfolding wordGiven pick
-returns-2 c = here _ _ _ 3 (c .match .keys2)
+unfolding wordAt wordGiven askedAt pick
+returns-2 c = c .bucket .ensures ∙ (here _ _ 3 (c .before .match .keys2))
 
 returns-3 : tie.Need-returns-3
-unfolding wordGiven pick
-returns-3 c = here _ _ _ 4 (c .match .keys3)
+unfolding wordAt wordGiven askedAt pick
+returns-3 c = c .bucket2 .ensures ∙ rw (c .before .parent .ensures) (here _ _ 4 (c .before .before .match .keys3))
 
 returns-4 : tie.Need-returns-4
-unfolding wordGiven pick
-returns-4 c = c .lowest2 .ensures ∙ (here _ _ _ 5 (c .before .match .keys4))
+unfolding wordAt wordGiven askedAt pick
+returns-4 c = c .lowest2 .ensures ∙ (here _ _ 5 (c .before .match .keys4))
 
 returns-5 : tie.Need-returns-5
-unfolding wordGiven pick
-returns-5 c = c .word .ensures ∙ (here _ _ _ 6 (c .before .match .keys5))
+unfolding wordAt wordGiven askedAt pick
+returns-5 c = c .word .ensures ∙ (here _ _ 6 (c .before .match .keys5))
 
 returns-6 : tie.Need-returns-6
-unfolding wordGiven pick
-returns-6 c = c .word2 .ensures ∙ (here _ _ _ 7 (c .before .match .keys6))
+unfolding wordAt wordGiven askedAt pick
+returns-6 c = c .word2 .ensures ∙ (here _ _ 7 (c .before .match .keys6))
 
 returns-7 : tie.Need-returns-7
-unfolding wordGiven pick
-returns-7 c = c .word3 .ensures ∙ (here _ _ _ 8 (c .before .match .keys7))
+unfolding wordAt wordGiven askedAt pick
+returns-7 c = c .word3 .ensures ∙ (here _ _ 8 (c .before .match .keys7))
 
 returns-8 : tie.Need-returns-8
-unfolding wordGiven pick
-returns-8 c = c .word4 .ensures ∙ (here _ _ _ 9 (c .before .match .keys8))
+unfolding wordAt wordGiven askedAt pick
+returns-8 c = c .word4 .ensures ∙ (here _ _ 9 (c .before .match .keys8))
 
 returns-9 : tie.Need-returns-9
-unfolding wordGiven pick
-returns-9 c = c .word5 .ensures ∙ (here _ _ _ 10 (c .before .match .keys9))
+unfolding wordAt wordGiven askedAt pick
+returns-9 c = c .word5 .ensures ∙ (here _ _ 10 (c .before .match .keys9))
 
 returns-10 : tie.Need-returns-10
-unfolding wordGiven pick
-returns-10 c = c .word6 .ensures ∙ (here _ _ _ 15 (c .before .match .keys10))
+unfolding wordAt wordGiven askedAt pick
+returns-10 c = c .word6 .ensures ∙ (here _ _ 15 (c .before .match .keys10))
 
 returns-11 : tie.Need-returns-11
-unfolding wordGiven pick
-returns-11 c = c .word7 .ensures ∙ (here _ _ _ 16 (c .before .match .keys11))
+unfolding wordAt wordGiven askedAt pick
+returns-11 c = c .word7 .ensures ∙ (here _ _ 16 (c .before .match .keys11))
 
 returns-12 : tie.Need-returns-12
-unfolding wordWith wordGiven pick
+unfolding wordFor wordAt wordGiven askedAt pick
 returns-12 c =
     let o = c .match .rest in
     sym (rw (
@@ -115,6 +124,9 @@ word-for-spec =
     add-lowest
     add-lowest-2
     lowest-requires
+    bucket-requires
+    parent-requires
+    bucket-requires-2
     lowest-requires-2
     word-requires
     word-requires-2
