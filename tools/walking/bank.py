@@ -6,13 +6,13 @@
     Bank { called, workers: left }
 """
 from held import Held, allocated, closed, fill, listed, locals_held, nest, slot
-from params import LENT, ROOMS, TOKENS, WORDS, arg_type, binders, entry, entry_facts, facts, joined, last, plain, units, val_type
+from params import LENT, ROOMS, TABLES, TOKENS, WORDS, arg_type, binders, entry, entry_facts, facts, joined, last, plain, units, val_type
 
 
 class Bank:
     def __init__(self, call, whole, params):
         self.call, self.values = call, plain(params)
-        self.whole_is = whole.format(tables="n₁ n₂")
+        self.whole_is = whole.format(tables=TABLES)
         self.whole = whole.split()[0]
         count = 1 + len(self.values) + 2
         self.nodes, self.buckets = count - 1, count
@@ -128,7 +128,7 @@ class Bank:
             limits = "use Rattle.prepare.specs.declared.Limits.{Limits}\nuse Rattle.prepare.proofs.Limits as tyL\nuse Rattle.prepare.proofs.Limits.Laws as lawL\n"
             return dict(nat="ℕ", syntax="named", val="Val", of_numbers="", of_value=limits, mach="machH, machL", typed="typedH, typedL")
         numbers = "use denote.Plain.{uint-makes, uint-vals, uint-tells}\n"
-        call = "use Rattle.crew.specs.declared.Call.{Call}\nuse denote.Enum.Laws as EL\nuse Rattle.crew.proofs.Call as tyK\nuse Rattle.crew.proofs.Call.Laws as lawK\n"
+        call = "use Rattle.register.specs.declared.Call.{Call}\nuse denote.Enum.Laws as EL\nuse Rattle.register.proofs.Call as tyK\nuse Rattle.register.proofs.Call.Laws as lawK\n"
         return dict(nat="ℕ, _<_, _^_", syntax="named, w32", val="Val, vint", of_numbers=numbers, of_value=call, mach="machH, machK", typed="typedH, typedK")
 
     def filled(self):

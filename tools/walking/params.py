@@ -57,7 +57,7 @@ class Value:
         return f"(are{path} .0 .1)" if self.number else f"(are{path} .0)"
 
 
-KINDS = {"w": "u32", "call": "Call", "header": "Header", "limits": "Limits"}
+KINDS = {"w": "u32", "most": "u32", "call": "Call", "header": "Header", "limits": "Limits"}
 
 
 def plain(names):
@@ -75,6 +75,7 @@ def facts(values):
 
 # the lent tables of words: nodes is 1, buckets is 2
 LENT = "(b₁ o₁ : ℕ) (γ₁ : GName) (n₁ : List ℕ) (b₂ o₂ : ℕ) (γ₂ : GName) (n₂ : List ℕ)"
+TABLES = "(tables n₁ n₂)"
 ROOMS = "(g₁ : Room u32 (length n₁)) (g₂ : Room u32 (length n₂))"
 TOKENS = "‵ (flft κ₁ q₁) ⊛ ‵ (flft κ₂ q₂) ⊛ ‵ ftrue"
 WORDS = """  abbrev x₁ : RefT (List ℕ)

@@ -3,14 +3,14 @@
     let len = workers.len();
     let at = w as usize;
     if len <= at {
-        return past(header, len, nodes.len(), buckets.len());
+        return past(header, .., len, nodes.len(), buckets.len());
     }
     let out = INNER(workers[at], len, w, header, .., nodes, buckets);
     workers[at] = out.worker;
     out.called
 """
 from held import Held, allocated, closed, fill, listed, locals_held, nest, slot
-from params import LENT, ROOMS, TOKENS, WORDS, Value, arg_type, binders, entry, entry_facts, facts, joined, last, plain, units, val_type
+from params import LENT, ROOMS, TABLES, TOKENS, WORDS, Value, arg_type, binders, entry, entry_facts, facts, joined, last, plain, units, val_type
 
 INSIDE = "(nleb→lt (length ys) w within)"
 FITS = f"fits-at w (length ys) {INSIDE} gn"
@@ -21,16 +21,16 @@ class Thin:
         self.name, self.inner, self.whole, self.one, self.past, self.within = name, inner, whole, one, past, within
         self.values = plain(params)
         extra = "".join(" " + value.expr for value in self.values[2:])
-        self.whole_is = f"{whole} header ys w{extra} n₁ n₂"
-        self.one_is = f"{one} (turn header w elem) (length ys){extra} n₁ n₂"
-        self.laws_at = f"header ys w n₁ n₂{extra}"
+        self.whole_is = f"{whole} header ys w{extra} {TABLES}"
+        self.one_is = f"{one} (turn header w elem) (length ys){extra} {TABLES}"
+        self.laws_at = f"header ys w {TABLES}{extra}"
         count = 1 + len(self.values) + 2
         self.nodes, self.buckets = count - 1, count
         (self.len, self.at, self.out, self.test, self.nodes_len, self.buckets_len, self.off, self.ptr, self.worker,
          self.ref1, self.slice1, self.ref2, self.slice2, self.ptr2) = range(count + 1, count + 15)
         self.count = count + 15
         self.passed = [Value("Worker", "elem", "g"), Value("usize", "(length ys)", "(gn .0)"), *self.values]
-        self.told = [self.values[1], Value("usize", "(length ys)", "(gn .0)"), Value("usize", "(length n₁)", "(g₁ .0)"), Value("usize", "(length n₂)", "(g₂ .0)")]
+        self.told = [*self.values[1:], Value("usize", "(length ys)", "(gn .0)"), Value("usize", "(length n₁)", "(g₁ .0)"), Value("usize", "(length n₂)", "(g₂ .0)")]
 
     def head(self, held):
         """The parameters come in; the number of records, the place and the test."""
@@ -49,12 +49,12 @@ class Thin:
         held.copy(self.nodes_len, held.field(self.nodes, 1), "(tt, record { fits = g₁ .0 })")
         held.copy(self.buckets_len, held.field(self.buckets, 1), "(tt, record { fits = g₂ .0 })")
         held.push("pre", "nothing ! $ use1 W (raw (Past 𝓤 H A mem run .pre to-past)) goes-past")
-        args = held.operands([held.local(3), held.local(self.len), held.local(self.nodes_len), held.local(self.buckets_len)])
+        args = held.operands([held.local(i) for i in [*range(3, 2 + len(self.values)), self.len, self.nodes_len, self.buckets_len]])
         held.say(f"\ncalls-at ! fm (Past 𝓤 H A mem run) known-past to-past {args} (λ v.\n")
         told = nest([value.expr for value in self.told])
         held.say(f"use1 W (later (some (λ (r : Called). (‵ ftrue ⊛ ‵ (tyC.the-row .own r (v ∷ []))) ⊛ raw (ensured 𝓤 H A past′.ended (past′.clauses 𝓤 H A mem run) tt {told} tt r)))) (id⊢ 𝓤 _) $ await ! tt $ pick ! (λ r.\n")
-        is_ = "r ≡ refused (pastOf header (length ys) (length n₁) (length n₂)) header"
-        held.say(f"split ! $ move ! (1 ∷ []) $ use1 W (some (λ (zs : Unit {{0}} × (Unit {{0}} × (Unit {{0}} × (Unit {{0}} × Unit {{0}})))). ‵ (lasts past′.ended tt {told} zs) ⊛ raw (fact 𝓤 ({is_})))) (id⊢ 𝓤 _) $ pick ! (λ zs.\n")
+        is_ = f"r ≡ pastOf {' '.join(value.expr for value in self.values[1:])} (length ys) (lengths {TABLES})"
+        held.say(f"split ! $ move ! (1 ∷ []) $ use1 W (some (λ (zs : {self.silent()}). ‵ (lasts past′.ended tt {told} zs) ⊛ raw (fact 𝓤 ({is_})))) (id⊢ 𝓤 _) $ pick ! (λ zs.\n")
         held.say(f"split ! $ move ! (1 ∷ []) $ heard ! ({is_}) (λ e.")
         held.turn(1, ["lasts", "result"])
         held.split("result", "true", "own")
@@ -64,7 +64,14 @@ class Thin:
         held.say(f"returns-within ! Post refl (look ! {held.cell(0)} refl) $")
         held.leave([self.out, *range(self.off, self.count)], self.count)
         held.keep("tokens", "owns")
-        held.say(f"by ! (refused-with r (of-called r _ is) (ap (λ (c : Called). left c ys n₁ n₂) e ∙ {self.past} {self.laws_at} (leb→le (length ys) w far)))))))))")
+        held.say(f"by ! (refused-with r (of-called r _ is) (ap (λ (c : Called). left (crew c ys) {TABLES}) e ∙ {self.past} {self.laws_at} (leb→le (length ys) w far)))))))))")
+
+    def silent(self):
+        """The types of the last values of `past`, which is lent nothing."""
+        text = "Unit {0}"
+        for _ in self.told:
+            text = f"Unit {{0}} × ({text})"
+        return text
 
     def place(self, held, pointer, how):
         """The place of record w."""
@@ -104,8 +111,8 @@ class Thin:
         args = held.operands([held.local(i) for i in [self.worker, self.len, *range(2, 2 + len(self.values)), self.slice1, self.slice2]])
         held.say(f"\ncalls-at ! fm (One 𝓤 H A mem run) known to-one {args} (λ v.\n")
         passed = nest([value.expr for value in self.passed] + ["x₁", "x₂"])
-        held.say(f"use1 W (later (some (λ (r : Served). (({TOKENS}) ⊛ ‵ (tyS.the-row .own r (v ∷ []))) ⊛ raw (ensured 𝓤 H A one.ended (one.clauses 𝓤 H A mem run) (κ₁, (κ₂, tt)) {passed} tt r)))) (id⊢ 𝓤 _) $ await ! tt $ pick ! (λ r.\n")
-        is_ = f"after (outcome r) {self.ended(1)} {self.ended(2)} ≡ {self.one_is}"
+        held.say(f"use1 W (later (some (λ (r : Outcome). (({TOKENS}) ⊛ ‵ (tyO.the-row .own r (v ∷ []))) ⊛ raw (ensured 𝓤 H A one.ended (one.clauses 𝓤 H A mem run) (κ₁, (κ₂, tt)) {passed} tt r)))) (id⊢ 𝓤 _) $ await ! tt $ pick ! (λ r.\n")
+        is_ = f"left r (tables {self.ended(1)} {self.ended(2)}) ≡ {self.one_is}"
         held.say(f"split ! $ move ! (1 ∷ []) $ use1 W (some (λ (zs : {units(len(self.passed))}). ‵ (lasts one.ended (κ₁, (κ₂, tt)) {passed} zs) ⊛ raw (fact 𝓤 ({is_})))) (id⊢ 𝓤 _) $ pick ! (λ zs.\n")
         held.say(f"split ! $ move ! (1 ∷ []) $ heard ! ({is_}) (λ e.\n")
         held.turn(1, ["lasts", "result"])
@@ -118,8 +125,8 @@ class Thin:
             held.turn(1, [f"ended-{j}"])
         held.split("result", "tokens-words", "own-out")
         held.front("own-out")
-        held.say("peeks ! tyS.the-row (Is tyS.the-row) (shows 𝓤 H A tyS.the-row) r (v ∷ []) (λ is.\n")
-        held.land(self.out, "tyS", "lawS")
+        held.say("peeks ! tyO.the-row (Is tyO.the-row) (shows 𝓤 H A tyO.the-row) r (v ∷ []) (λ is.\n")
+        held.land(self.out, "tyO", "lawO")
 
     def ended(self, j):
         """A lent table of words as the callee left it."""
@@ -140,7 +147,7 @@ class Thin:
         held.say(f"\nreturns ! (look ! {held.cell(0)} refl) $")
         held.leave([self.nodes_len, self.buckets_len], self.count)
         held.keep("obs", "borrow", "token", "tokens-words", "ended-1", "ended-2")
-        held.say(f"by ! (stored-with r {self.ended(1)} {self.ended(2)} (called-of r _ is) ({self.within} {self.laws_at} {INSIDE} (outcome r) {self.ended(1)} {self.ended(2)} e) e₁ e₂)")
+        held.say(f"by ! (stored-with r {self.ended(1)} {self.ended(2)} (called-of r _ is) ({self.within} {self.laws_at} {INSIDE} r (tables {self.ended(1)} {self.ended(2)}) e) e₁ e₂)")
 
     def steps(self):
         held = Held(locals_held(self.count) + ["tokens", "owns"])

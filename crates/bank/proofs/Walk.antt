@@ -23,11 +23,11 @@ use denote.Slice.{Room}
 use denote.Steps.{peeks}
 use denote.Struct.Laws as LL
 use Rattle.record.specs.declared.Worker.{Worker}
-use Rattle.crew.specs.declared.Called.{Called}
+use Rattle.acts.specs.declared.Called.{Called}
 use Rattle.bank.specs.declared.Bank.{Bank}
 use Rattle.record.proofs.Worker as tyW
 use Rattle.record.proofs.Worker.Laws as lawW
-use Rattle.crew.proofs.Called as tyC
+use Rattle.acts.proofs.Called as tyC
 use Rattle.crew.proofs.Walk.{rowW, machW, machC, of-called}
 use Rattle.bank.proofs.Bank as tyB
 

@@ -19,46 +19,51 @@ use Rattle.choice.proofs.Cases.{both}
 use Rattle.header.specs.declared.Header.{Header}
 use Rattle.record.specs.declared.Worker.{Worker}
 use Rattle.prepare.specs.declared.Limits.{Limits}
-use Rattle.crew.specs.declared.Call.{Call}
-use Rattle.crew.specs.declared.Called.{Called}
+use Rattle.words.specs.Words.{Tables, tables, Left, left}
+use Rattle.acts.specs.declared.Called.{Called}
+use Rattle.acts.specs.declared.Outcome.{Outcome}
+use Rattle.register.specs.declared.Call.{Call}
+use Rattle.register.specs.declared.Call.the-variants.{Start}
 use Rattle.crew.proofs.prepare as prepare
 use Rattle.crew.proofs.serve as serve
-use Rattle.crew.specs.Crew.{Left, left, prepareAt, startAt, serveAt}
+use Rattle.crew.specs.Crew.{Crew, crew, oneCall, callAt, serveAt, prepareAt}
 
 -- ---- what each walked contract says, read off the contract itself: it leaves lists that the definition names
 module _ {M : Type 1} (𝓤 : URA M) (H : Heap 𝓤) (A : Atoms 𝓤) (mem : Memory → SProp 𝓤) (run : Routine → Fun 𝓤) (κ κ₁ κ₂ : Lft) (x : RefT (List Worker)) (x₁ x₂ : RefT (List ℕ)) (header : Header) (r : Called) where
-  abbrev Lists : Left → List Worker × (List ℕ × List ℕ) → SProp 𝓤
-  Lists l zs = fact 𝓤 (left r (zs .0) (zs .1 .0) (zs .1 .1) ≡ l)
+  abbrev Lists : Left Crew → List Worker × (List ℕ × List ℕ) → SProp 𝓤
+  Lists l zs = fact 𝓤 (left (crew r (zs .0)) (tables (zs .1 .0) (zs .1 .1)) ≡ l)
 
-  abbrev Leaves : Left → SProp 𝓤
+  abbrev Leaves : Left Crew → SProp 𝓤
   Leaves l = ex 𝓤 (Lists l)
 
-  pub serve-says : (w : ℕ) (call : Call) → ent 𝓤 (ensured 𝓤 H A serve.ended (serve.clauses 𝓤 H A mem run) (κ, (κ₁, (κ₂, tt))) (x, (w, (header, (call, (x₁, (x₂, tt)))))) tt r) (Leaves (serveAt header (now x) w call (now x₁) (now x₂)))
-  serve-says w call = exE 𝓤 _ (λ zs. via 𝓤 _ (snd∗ 𝓤 (sem 𝓤 H A (lasts serve.ended (κ, (κ₁, (κ₂, tt))) (x, (w, (header, (call, (x₁, (x₂, tt)))))) zs)) _) (exI 𝓤 (Lists (serveAt header (now x) w call (now x₁) (now x₂))) (zs .0, (zs .1 .1 .1 .1 .0, zs .1 .1 .1 .1 .1 .0))))
+  abbrev ts : Tables
+  ts = tables (now x₁) (now x₂)
 
-  pub prepare-says : (limits : Limits) → ent 𝓤 (ensured 𝓤 H A prepare.ended (prepare.clauses 𝓤 H A mem run) (κ, (κ₁, (κ₂, tt))) (x, (limits, (header, (x₁, (x₂, tt))))) tt r) (Leaves (prepareAt limits header (now x) (now x₁) (now x₂)))
-  prepare-says limits = exE 𝓤 _ (λ zs. via 𝓤 _ (snd∗ 𝓤 (sem 𝓤 H A (lasts prepare.ended (κ, (κ₁, (κ₂, tt))) (x, (limits, (header, (x₁, (x₂, tt))))) zs)) _) (exI 𝓤 (Lists (prepareAt limits header (now x) (now x₁) (now x₂))) (zs .0, (zs .1 .1 .1 .0, zs .1 .1 .1 .1 .0))))
+  pub serve-says : (w : ℕ) (call : Call) (most : ℕ) → ent 𝓤 (ensured 𝓤 H A serve.ended (serve.clauses 𝓤 H A mem run) (κ, (κ₁, (κ₂, tt))) (x, (w, (header, (call, (most, (x₁, (x₂, tt))))))) tt r) (Leaves (serveAt header (now x) w call most ts))
+  serve-says w call most = exE 𝓤 _ (λ zs. via 𝓤 _ (snd∗ 𝓤 (sem 𝓤 H A (lasts serve.ended (κ, (κ₁, (κ₂, tt))) (x, (w, (header, (call, (most, (x₁, (x₂, tt))))))) zs)) _) (exI 𝓤 (Lists (serveAt header (now x) w call most ts)) (zs .0, (zs .1 .1 .1 .1 .1 .0, zs .1 .1 .1 .1 .1 .1 .0))))
 
--- two calls over a lent table that leave the same: the same answer, steps and header, the same records, node words and bucket words
-abbrev pub Agree : Called → List Worker → List ℕ → List ℕ → Called → List Worker → List ℕ → List ℕ → Type 0
-Agree r ws ns bs r′ ws′ ns′ bs′ = (r ≡ r′) × (ws ≡ ws′) × (ns ≡ ns′) × (bs ≡ bs′)
+  pub prepare-says : (limits : Limits) → ent 𝓤 (ensured 𝓤 H A prepare.ended (prepare.clauses 𝓤 H A mem run) (κ, (κ₁, (κ₂, tt))) (x, (limits, (header, (x₁, (x₂, tt))))) tt r) (Leaves (prepareAt limits header (now x) ts))
+  prepare-says limits = exE 𝓤 _ (λ zs. via 𝓤 _ (snd∗ 𝓤 (sem 𝓤 H A (lasts prepare.ended (κ, (κ₁, (κ₂, tt))) (x, (limits, (header, (x₁, (x₂, tt))))) zs)) _) (exI 𝓤 (Lists (prepareAt limits header (now x) ts)) (zs .0, (zs .1 .1 .1 .0, zs .1 .1 .1 .1 .0))))
 
-same : (l : Left) (r r′ : Called) (ws ws′ : List Worker) (ns ns′ bs bs′ : List ℕ) → left r ws ns bs ≡ l → left r′ ws′ ns′ bs′ ≡ l → Agree r ws ns bs r′ ws′ ns′ bs′
-same l r r′ ws ws′ ns ns′ bs bs′ p q =
+-- two calls over a lent table that leave the same: the same answer, steps and header, the same records, and the same words
+abbrev pub Agree : Called → List Worker → Tables → Called → List Worker → Tables → Type 0
+Agree r ws ts r′ ws′ ts′ = (r ≡ r′) × (ws ≡ ws′) × (ts ≡ ts′)
+
+same : (l : Left Crew) (r r′ : Called) (ws ws′ : List Worker) (ts ts′ : Tables) → left (crew r ws) ts ≡ l → left (crew r′ ws′) ts′ ≡ l → Agree r ws ts r′ ws′ ts′
+same l r r′ ws ws′ ts ts′ p q =
     let e = p ∙ sym q in
-    (ap (λ (k : Left). k .called) e, ap (λ (k : Left). k .workers) e, ap (λ (k : Left). k .nodes) e, ap (λ (k : Left). k .buckets) e)
+    (ap (λ (k : Left Crew). k .out .called) e, ap (λ (k : Left Crew). k .out .workers) e, ap (λ (k : Left Crew). k .tables) e)
 
 -- what is handed back and the tables at exit, where `prepare` meets its contract twice on the same arguments
-pub prepare-same : (limits : Limits) (header : Header) (workers : List Worker) (nodes buckets : List ℕ) (r r′ : Called) (ws ws′ : List Worker) (ns ns′ bs bs′ : List ℕ)
-    → left r ws ns bs ≡ prepareAt limits header workers nodes buckets → left r′ ws′ ns′ bs′ ≡ prepareAt limits header workers nodes buckets → Agree r ws ns bs r′ ws′ ns′ bs′
-prepare-same limits header workers nodes buckets = same (prepareAt limits header workers nodes buckets)
+pub prepare-same : (limits : Limits) (header : Header) (workers : List Worker) (lent : Tables) (r r′ : Called) (ws ws′ : List Worker) (ts ts′ : Tables)
+    → left (crew r ws) ts ≡ prepareAt limits header workers lent → left (crew r′ ws′) ts′ ≡ prepareAt limits header workers lent → Agree r ws ts r′ ws′ ts′
+prepare-same limits header workers lent = same (prepareAt limits header workers lent)
 
-pub serve-same : (header : Header) (workers : List Worker) (w : ℕ) (call : Call) (nodes buckets : List ℕ) (r r′ : Called) (ws ws′ : List Worker) (ns ns′ bs bs′ : List ℕ)
-    → left r ws ns bs ≡ serveAt header workers w call nodes buckets → left r′ ws′ ns′ bs′ ≡ serveAt header workers w call nodes buckets → Agree r ws ns bs r′ ws′ ns′ bs′
-serve-same header workers w call nodes buckets = same (serveAt header workers w call nodes buckets)
+pub serve-same : (header : Header) (workers : List Worker) (w : ℕ) (call : Call) (most : ℕ) (lent : Tables) (r r′ : Called) (ws ws′ : List Worker) (ts ts′ : Tables)
+    → left (crew r ws) ts ≡ serveAt header workers w call most lent → left (crew r′ ws′) ts′ ≡ serveAt header workers w call most lent → Agree r ws ts r′ ws′ ts′
+serve-same header workers w call most lent = same (serveAt header workers w call most lent)
 
--- a start writes neither table of words
-pub start-keeps : (header : Header) (workers : List Worker) (w kind key : ℕ) (nodes buckets : List ℕ) → (startAt header workers w kind key nodes buckets .nodes ≡ nodes) × (startAt header workers w kind key nodes buckets .buckets ≡ buckets)
-unfolding startAt
-start-keeps header workers w kind key nodes buckets =
-    both (λ (l : Left). (l .nodes ≡ nodes) × (l .buckets ≡ buckets)) (ltb (length workers) (header .w)) (refl, refl) (refl, refl)
+-- a start writes no lent word but those of the records
+pub start-keeps : (header : Header) (workers : List Worker) (w kind key : ℕ) (lent : Tables) → callAt header workers w (Start kind key) lent .tables ≡ lent
+unfolding oneCall
+start-keeps header workers w kind key lent = both (λ (l : Left Outcome). l .tables ≡ lent) (ltb (length workers) (header .w)) refl refl

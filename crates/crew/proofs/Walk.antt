@@ -26,21 +26,21 @@ use Rattle.header.specs.declared.Header.{Header}
 use Rattle.record.specs.declared.Worker.{Worker}
 use Rattle.record.specs.Worker.{idle}
 use Rattle.prepare.specs.declared.Limits.{Limits}
-use Rattle.crew.specs.declared.Call.{Call}
-use Rattle.crew.specs.declared.Called.{Called}
-use Rattle.crew.specs.declared.Served.{Served}
+use Rattle.acts.specs.declared.Called.{Called}
+use Rattle.acts.specs.declared.Outcome.{Outcome}
+use Rattle.register.specs.declared.Call.{Call}
 use Rattle.record.proofs.Worker as tyW
 use Rattle.record.proofs.Worker.Laws as lawW
 use Rattle.header.proofs.Header as tyH
 use Rattle.header.proofs.Header.Laws as lawH
 use Rattle.prepare.proofs.Limits as tyL
 use Rattle.prepare.proofs.Limits.Laws as lawL
-use Rattle.crew.proofs.Call as tyK
-use Rattle.crew.proofs.Call.Laws as lawK
-use Rattle.crew.proofs.Called as tyC
-use Rattle.crew.proofs.Called.Laws as lawC
-use Rattle.crew.proofs.Served as tyS
-use Rattle.crew.proofs.Served.Laws as lawS
+use Rattle.register.proofs.Call as tyK
+use Rattle.register.proofs.Call.Laws as lawK
+use Rattle.acts.proofs.Called as tyC
+use Rattle.acts.proofs.Called.Laws as lawC
+use Rattle.acts.proofs.Outcome as tyO
+use Rattle.acts.proofs.Outcome.Laws as lawO
 
 -- each type's row, and its machine value
 abbrev pub rowW : RattleType
@@ -73,11 +73,11 @@ wide w l = omega (arith, l)
 pub of-called : (r : Called) (vs : List Val) → Is tyC.the-row r vs → Is tyC.the-row r (machC r ∷ [])
 of-called r vs is = LL.owes tyC.the-type lawC.the-laws r (LL.owed tyC.the-type lawC.the-laws r vs is)
 
-pub record-of : (r : Served) (vs : List Val) → Is tyS.the-row r vs → Is rowW (r .worker) (machW (r .worker) ∷ [])
-record-of r vs is = LL.owed tyS.the-type lawS.the-laws r vs is .1 .0
+pub record-of : (r : Outcome) (vs : List Val) → Is tyO.the-row r vs → Is rowW (r .worker) (machW (r .worker) ∷ [])
+record-of r vs is = LL.owed tyO.the-type lawO.the-laws r vs is .1 .0
 
-pub called-of : (r : Served) (vs : List Val) → Is tyS.the-row r vs → Is tyC.the-row (r .called) (machC (r .called) ∷ [])
-called-of r vs is = LL.owed tyS.the-type lawS.the-laws r vs is .0
+pub called-of : (r : Outcome) (vs : List Val) → Is tyO.the-row r vs → Is tyC.the-row (r .called) (machC (r .called) ∷ [])
+called-of r vs is = LL.owed tyO.the-type lawO.the-laws r vs is .0
 
 -- the code after a statement, and the locals with their places
 abbrev pub after : Body → Body

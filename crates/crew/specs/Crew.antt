@@ -2,88 +2,64 @@
 use Prim.Native.Nat.{ℕ, zero, suc}
 use mathlib.Core.Bool.{Bool}
 use mathlib.Core.List.{List}
-use lib.Dec.{ltb, eqb}
+use lib.Dec.{ltb}
 use lib.ListN.{length, getD, set}
 use Rattle.choice.specs.Choice.{pick}
-use Rattle.names.specs.Names.{numberOf}
+use Rattle.words.specs.Words.{Tables, lengths, Left, left}
+use Rattle.names.specs.Names.{goesOn}
 use Rattle.names.specs.declared.Answer.{Answer}
-use Rattle.names.specs.declared.Answer.the-variants.{Limit, Short, Damaged}
+use Rattle.names.specs.declared.Answer.the-variants.{Going, Limit, Short}
 use Rattle.header.specs.declared.Header.{Header}
-use Rattle.header.specs.Header.{limitBroken, headerDamaged}
+use Rattle.header.specs.Header.{limitBroken, missing}
 use Rattle.record.specs.declared.Worker.{Worker}
 use Rattle.record.specs.Worker.{idle}
+use Rattle.acts.specs.declared.Called.{Called}
+use Rattle.acts.specs.declared.Outcome.{Outcome}
+use Rattle.acts.specs.Acts.{answered}
 use Rattle.prepare.specs.declared.Limits.{Limits}
-use Rattle.register.specs.declared.Turn.{Turn}
-use Rattle.writes.specs.declared.Outcome.{Outcome}
-use Rattle.prepare.specs.declared.Prepared.{Prepared}
-use Rattle.writes.specs.Carry.{After, after}
 use Rattle.prepare.specs.Prepare.{freshHeader, prepared}
-use Rattle.register.specs.Calls.{startOf, stepOf}
-use Rattle.crew.specs.declared.Call.{Call}
-use Rattle.crew.specs.declared.Call.the-variants.{Start, Steps}
-use Rattle.crew.specs.declared.Called.{Called}
+use Rattle.register.specs.declared.Call.{Call}
+use Rattle.register.specs.declared.Call.the-variants.{Start, Step}
+use Rattle.register.specs.declared.Turn.{Turn}
+use Rattle.register.specs.Step.{refusedWith}
+use Rattle.register.specs.Calls.{askedOf}
+use Rattle.crew.specs.declared.Ready.{Ready}
 
--- all that a call leaves: what it hands back, the records, and the two lent tables of words
-pub record Left : Type 0 where
+-- what a call hands back, and the records that it leaves
+pub record Crew : Type 0 where
   pub called : Called
   pub workers : List Worker
-  pub nodes : List ℕ
-  pub buckets : List ℕ
 
-abbrev pub left : Called → List Worker → List ℕ → List ℕ → Left
-left c ws ns bs = record { called = c; workers = ws; nodes = ns; buckets = bs }
-
--- a refused call hands the header back as it came
-abbrev pub refused : Answer → Header → Called
-refused a h = record { answer = a; steps = 0; header = h }
-
--- what a start or a step hands back beside the record
-abbrev pub called : Outcome → Called
-called o = record { answer = o .answer; steps = o .steps; header = o .header }
+abbrev pub crew : Called → List Worker → Crew
+crew c ws = record { called = c; workers = ws }
 
 -- ---- one worker's call
-abbrev pub turn : Header → ℕ → Worker → Turn
-turn h w x = record { number = w; header = h; worker = x }
-
 -- worker w with its record; past the table it is idle, and there w is W or above
 abbrev pub turnAt : Header → List Worker → ℕ → Turn
-turnAt h ws w = turn h w (getD ws w idle)
+turnAt h ws w = record { number = w; header = h; worker = getD ws w idle }
+
+-- the register's own call, with the record in hand; fewer records than W: 12, then 11
+unfoldable pub oneCall : Turn → Bool → Call → Tables → Left Outcome
+oneCall t few c ts = pick few (left (refusedWith (missing (t .header) few (lengths ts)) t) ts) (askedOf t c ts)
 
 -- record w is stored back; past the table there is nothing to store
-abbrev pub stored : List Worker → ℕ → After → Left
-stored ws w a = left (called (a .out)) (set ws w (a .out .worker)) (a .nodes) (a .buckets)
+abbrev pub stored : List Worker → ℕ → Left Outcome → Left Crew
+stored ws w l = left (crew (l .out .called) (set ws w (l .out .worker))) (l .tables)
 
--- fewer records than W: 12, then 11
-unfoldable pub tooFew : Header → Answer
-tooFew h = pick (headerDamaged h) Damaged Short
+-- a start or one step of worker w
+abbrev pub callAt : Header → List Worker → ℕ → Call → Tables → Left Crew
+callAt h ws w c ts = stored ws w (oneCall (turnAt h ws w) (ltb (length ws) (h .w)) c ts)
 
--- one step of worker w
-unfoldable pub stepAt : Header → List Worker → ℕ → List ℕ → List ℕ → Left
-stepAt h ws w ns bs =
-    pick (ltb (length ws) (h .w)) (left (refused (tooFew h) h) ws ns bs) (stored ws w (stepOf (turnAt h ws w) ns bs))
+-- ---- several steps of one worker: up to so many, ending after the first whose answer isn't 0
+unfoldable pub mostAt : ℕ → ℕ → Left Crew → Left Crew
+mostAt w zero l = l
+mostAt w (suc most) l =
+    pick (goesOn (l .out .called .answer)) (mostAt w most (callAt (l .out .called .header) (l .out .workers) w Step (l .tables))) l
 
--- worker w starts an operation; a start writes neither table of words
-unfoldable pub startAt : Header → List Worker → ℕ → ℕ → ℕ → List ℕ → List ℕ → Left
-startAt h ws w kind key ns bs =
-    pick (ltb (length ws) (h .w)) (left (refused (tooFew h) h) ws ns bs) (stored ws w (after (startOf (turnAt h ws w) kind key (length ns) (length bs)) ns bs))
-
--- ---- several steps of one worker: a step, and up to so many more, ending after the first whose answer isn't 0
--- the answer is 0, going on
-abbrev pub going : Answer → Bool
-going a = eqb (numberOf a) 0
-
--- up to so many more steps of worker w after what a step left
-unfoldable pub moreAt : ℕ → ℕ → Left → Left
-moreAt w zero l = l
-moreAt w (suc more) l = pick (going (l .called .answer)) (moreAt w more (stepAt (l .called .header) (l .workers) w (l .nodes) (l .buckets))) l
-
-unfoldable pub stepsAt : Header → List Worker → ℕ → ℕ → List ℕ → List ℕ → Left
-stepsAt h ws w more ns bs = moreAt w more (stepAt h ws w ns bs)
-
--- ---- a call of worker w
-abbrev pub serveAt : Header → List Worker → ℕ → Call → List ℕ → List ℕ → Left
-serveAt h ws w (Start kind key) ns bs = startAt h ws w kind key ns bs
-serveAt h ws w (Steps more) ns bs = stepsAt h ws w more ns bs
+-- ---- a call of worker w, a step up to so many times; none is no call: going on, and all as it was
+abbrev pub serveAt : Header → List Worker → ℕ → Call → ℕ → Tables → Left Crew
+serveAt h ws w (Start kind key) most ts = callAt h ws w (Start kind key) ts
+serveAt h ws w Step most ts = mostAt w most (left (crew (answered Going h) ws) ts)
 
 -- ---- preparing
 -- the records once the first n are x
@@ -91,20 +67,22 @@ unfoldable pub filled : ℕ → Worker → List Worker → List Worker
 filled zero x ws = ws
 filled (suc n) x ws = set (filled n x ws) n x
 
-abbrev pub idled : ℕ → List Worker → List Worker
-idled n ws = filled n idle ws
-
--- what preparing hands back; no step is counted
-abbrev pub ready : Prepared → Called
-ready o = record { answer = o .answer; steps = 0; header = o .header }
-
 -- fewer records than W: 10, then 11
 unfoldable pub tooFewFor : Limits → Answer
 tooFewFor l = pick (limitBroken (freshHeader l)) Limit Short
 
+-- a prepared register wants W idle records, a refused one none
+abbrev pub wants : ℕ → Called → Ready
+wants w c = record { called = c; count = pick (goesOn (c .answer)) w 0; worker = idle }
+
+-- preparing where there are so many records
+unfoldable pub prepareOne : Limits → ℕ → Header → Tables → Left Ready
+prepareOne l records h ts =
+    let p = prepared l h ts in
+    pick (ltb records (l .w)) (left (wants (l .w) (answered (tooFewFor l) h)) ts) (left (wants (l .w) (p .out)) (p .tables))
+
 -- a register is prepared: its W records are idle, and those past W stay
-unfoldable pub prepareAt : Limits → Header → List Worker → List ℕ → List ℕ → Left
-prepareAt l h ws ns bs =
-    let k = prepared l h ns bs in
-    pick (ltb (length ws) (l .w)) (left (refused (tooFewFor l) h) ws ns bs)
-    (left (ready (k .out)) (pick (eqb (numberOf (k .out .answer)) 0) (idled (l .w) ws) ws) (k .nodes) (k .buckets))
+abbrev pub prepareAt : Limits → Header → List Worker → Tables → Left Crew
+prepareAt l h ws ts =
+    let p = prepareOne l (length ws) h ts in
+    left (crew (p .out .called) (filled (p .out .count) (p .out .worker) ws)) (p .tables)

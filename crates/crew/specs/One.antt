@@ -1,73 +1,42 @@
--- The parts by value: what is done with one record, a number of records and the lent tables of words.
-use Prim.Native.Nat.{ℕ, zero, suc, _+_}
-use mathlib.Core.Bool.{Bool, _||_}
-use mathlib.Core.List.{List}
+-- The parts by value in which the code serves a worker: with its record in hand, and past the table.
+use Prim.Native.Nat.{ℕ, zero, suc}
+use mathlib.Core.Bool.{Bool, false}
 use lib.Dec.{ltb, eqb}
-use lib.ListN.{length}
 use Rattle.choice.specs.Choice.{pick}
-use Rattle.names.specs.Names.{numberOf}
-use Rattle.names.specs.declared.Answer.{Answer}
-use Rattle.names.specs.declared.Answer.the-variants.{Going, Short, Damaged, NoWorker}
+use Rattle.words.specs.declared.Lengths.{Lengths}
+use Rattle.words.specs.Words.{Tables, Left, left}
+use Rattle.names.specs.Names.{goesOn}
+use Rattle.names.specs.declared.Answer.the-variants.{Going}
 use Rattle.header.specs.declared.Header.{Header}
-use Rattle.header.specs.Header.{headerDamaged, isShort}
-use Rattle.record.specs.Worker.{idle}
-use Rattle.prepare.specs.declared.Limits.{Limits}
-use Rattle.writes.specs.declared.Outcome.{Outcome}
-use Rattle.prepare.specs.declared.Prepared.{Prepared}
+use Rattle.header.specs.Header.{missing}
+use Rattle.record.specs.declared.Worker.{Worker}
+use Rattle.acts.specs.declared.Called.{Called}
+use Rattle.acts.specs.declared.Outcome.{Outcome}
+use Rattle.acts.specs.Acts.{answered, handedBack}
+use Rattle.register.specs.declared.Call.{Call}
+use Rattle.register.specs.declared.Call.the-variants.{Start, Step}
 use Rattle.register.specs.declared.Turn.{Turn}
-use Rattle.writes.specs.Carry.{After, after, handedBack}
-use Rattle.register.specs.Step.{refusedWith}
-use Rattle.prepare.specs.Prepare.{prepared}
-use Rattle.register.specs.Calls.{startOf, stepOf}
-use Rattle.crew.specs.declared.Call.{Call}
-use Rattle.crew.specs.declared.Call.the-variants.{Start, Steps}
-use Rattle.crew.specs.declared.Served.{Served}
-use Rattle.crew.specs.declared.Ready.{Ready}
-use Rattle.crew.specs.Crew.{called, turn, going, tooFew, tooFewFor, ready}
+use Rattle.crew.specs.Crew.{oneCall}
 
--- a worker that there is not: 12, then 11 where there are too few records or words, then 13
-unfoldable pub noneOf : Header → Bool → ℕ → ℕ → Answer
-noneOf h few nodes buckets = pick (headerDamaged h) Damaged (pick (few || isShort h nodes buckets) Short NoWorker)
+abbrev pub turn : Header → ℕ → Worker → Turn
+turn h w x = record { number = w; header = h; worker = x }
 
--- a worker past the table
-abbrev pub pastOf : Header → ℕ → ℕ → ℕ → Answer
-pastOf h len nodes buckets = noneOf h (ltb len (h .w)) nodes buckets
+-- no step is no call
+abbrev pub noCall : Call → ℕ → Bool
+noCall (Start kind key) most = false
+noCall Step most = eqb most 0
 
--- what the register hands back, the record apart, and put together again
-abbrev pub apart : Outcome → Served
-apart o = record { called = called o; worker = o .worker }
-
-abbrev pub outcome : Served → Outcome
-outcome s = record { answer = s .called .answer; steps = s .called .steps; header = s .called .header; worker = s .worker }
+-- a worker past the table, where there are so many records
+unfoldable pub pastOf : Header → Call → ℕ → ℕ → Lengths → Called
+pastOf h c most records lengths = pick (noCall c most) (answered Going h) (answered (missing h (ltb records (h .w)) lengths) h)
 
 -- up to so many steps of worker w with its record in hand, ending after the first whose answer isn't 0
-unfoldable pub mostOf : ℕ → ℕ → After → After
-mostOf w zero a = a
-mostOf w (suc most) a = pick (going (a .out .answer)) (mostOf w most (stepOf (turn (a .out .header) w (a .out .worker)) (a .nodes) (a .buckets))) a
+unfoldable pub mostOf : ℕ → Bool → ℕ → Left Outcome → Left Outcome
+mostOf w few zero l = l
+mostOf w few (suc most) l =
+    pick (goesOn (l .out .called .answer)) (mostOf w few most (oneCall (turn (l .out .called .header) w (l .out .worker)) few Step (l .tables))) l
 
--- the call with the record in hand: of steps there is one at least
-abbrev pub callOf : Turn → Call → List ℕ → List ℕ → After
-callOf t (Start kind key) ns bs = after (startOf t kind key (length ns) (length bs)) ns bs
-callOf t (Steps more) ns bs = mostOf (t .number) (more + 1) (after (handedBack Going (t .header) (t .worker)) ns bs)
-
--- where there are len records
-unfoldable pub serveOne : Turn → ℕ → Call → List ℕ → List ℕ → After
-serveOne t len c ns bs = pick (ltb len (t .header .w)) (after (refusedWith (tooFew (t .header)) t) ns bs) (callOf t c ns bs)
-
--- a prepared register asks for W idle records, a refused one for none
-abbrev pub wants : ℕ → Prepared → Ready
-wants w o = record { called = ready o; count = pick (eqb (numberOf (o .answer)) 0) w 0; worker = idle }
-
--- what preparing leaves: what it hands back and wants of the records, and the two lent tables of words
-pub record Wanted : Type 0 where
-  pub out : Ready
-  pub nodes : List ℕ
-  pub buckets : List ℕ
-
-abbrev pub wanted : Ready → List ℕ → List ℕ → Wanted
-wanted r ns bs = record { out = r; nodes = ns; buckets = bs }
-
-unfoldable pub prepareOne : Limits → ℕ → Header → List ℕ → List ℕ → Wanted
-prepareOne l len h ns bs =
-    let k = prepared l h ns bs in
-    pick (ltb len (l .w)) (wanted (wants (l .w) (record { answer = tooFewFor l; header = h })) ns bs) (wanted (wants (l .w) (k .out)) (k .nodes) (k .buckets))
+-- the call with the record in hand, where there are so many records
+abbrev pub serveOne : Turn → ℕ → Call → ℕ → Tables → Left Outcome
+serveOne t records (Start kind key) most ts = oneCall t (ltb records (t .header .w)) (Start kind key) ts
+serveOne t records Step most ts = mostOf (t .number) (ltb records (t .header .w)) most (left (handedBack Going (t .header) (t .worker)) ts)

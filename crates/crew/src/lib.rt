@@ -2,40 +2,22 @@
 ghost use mathlib.Core.Path.{_≡_};
 ghost use Prim.Native.Nat.{_≤_};
 ghost use lib.ListN.{length};
+ghost use Rattle.words.specs.Words.{tables, left};
+ghost use Rattle.acts.specs.Acts.{handedBack};
+ghost use Rattle.names.specs.Names.{goesOn};
 ghost use Rattle.names.specs.declared.Answer.the-variants.{Going};
-ghost use Rattle.writes.specs.Carry.{after, handedBack};
-ghost use Rattle.crew.specs.Crew.{left, turn, refused, going, tooFew, filled, tooFewFor, serveAt, prepareAt};
-ghost use Rattle.crew.specs.One.{pastOf, apart, outcome, mostOf, serveOne, wants, wanted, prepareOne};
+ghost use Rattle.crew.specs.Crew.{crew, filled, tooFewFor, oneCall, wants, prepareOne, serveAt, prepareAt};
+ghost use Rattle.crew.specs.One.{turn, noCall, pastOf, mostOf, serveOne};
+use acts::Called;
+use acts::Outcome;
 use header::Header;
 use names::Answer;
 use names::place;
 use prepare::Limits;
-use prepare::Prepared;
 use record::Worker;
-use register::Ask;
+use register::Call;
 use register::Turn;
-use writes::Outcome;
-
-// What a worker is called for.
-pub enum Call {
-    // An operation of this kind on this key starts.
-    Start { kind: u32, key: u32 },
-    // One step, and up to so many more, ending after the first whose answer isn't 0.
-    Steps { more: u32 },
-}
-
-// What a call over the table hands back; an ended answer gives the operation's steps.
-pub struct Called {
-    pub answer: Answer,
-    pub steps: u32,
-    pub header: Header,
-}
-
-// What one worker's call hands back, and the record to store in the place of its own.
-pub struct Served {
-    pub called: Called,
-    pub worker: Worker,
-}
+use words::Lengths;
 
 // What preparing hands back by value, and the records that it wants: the first `count` as `worker`.
 pub struct Ready {
@@ -44,61 +26,65 @@ pub struct Ready {
     pub worker: Worker,
 }
 
-// A refused call hands the header back as it came.
-fn refused(answer: Answer, header: Header) -> Called
-    ensures { λ r. ⌜ r ≡ refused answer header ⌝ }
+// No step is no call.
+fn no_call(call: Call, most: u32) -> bool
+    ensures { λ r. ⌜ r ≡ noCall call most ⌝ }
 {
-    Called {
-        answer,
-        steps: 0,
-        header,
+    match call {
+        Call::Start { kind: _, key: _ } => false,
+        Call::Step => most == 0,
     }
 }
 
-// A worker past the table: 12, 11, 13.
-fn past(header: Header, len: usize, nodes: usize, buckets: usize) -> Called
-    ensures { λ r. ⌜ r ≡ refused (pastOf header len nodes buckets) header ⌝ }
+// A worker past the table.
+fn past(
+    header: Header,
+    call: Call,
+    most: u32,
+    len: usize,
+    nodes: usize,
+    buckets: usize,
+) -> Called
+    ensures { λ r. ⌜ r ≡ pastOf header call most len (record { nodes = nodes; buckets = buckets }) ⌝ }
 {
-    if header.damaged() {
-        return refused(Answer::Damaged, header);
+    if no_call(call, most) {
+        return Called::answered(Answer::Going, header);
     }
-    if ((len as u64) < (header.w as u64)) | header.short(nodes, buckets) {
-        return refused(Answer::Short, header);
-    }
-    refused(Answer::NoWorker, header)
+    let lengths = Lengths { nodes, buckets };
+    let few = (len as u64) < (header.w as u64);
+    Called::answered(header.missing(few, lengths), header)
 }
 
-// 12, then 11: there are fewer records than W.
-fn too_few(header: Header) -> Answer
-    ensures { λ r. ⌜ r ≡ tooFew header ⌝ }
+// One call with the record in hand; where there are fewer records than W it is 12, then 11.
+fn one_call(
+    turn: Turn,
+    few: bool,
+    call: Call,
+    nodes: &mut [u32],
+    buckets: &mut [u32],
+) -> Outcome
+    ensures { λ r. ⌜ left r (tables (now (nodes .exit)) (now (buckets .exit))) ≡ oneCall turn few call (tables (now (nodes .entry)) (now (buckets .entry))) ⌝ }
 {
-    if header.damaged() {
-        return Answer::Damaged;
+    if few {
+        let header = turn.header;
+        let worker = turn.worker;
+        let lengths = Lengths {
+            nodes: nodes.len(),
+            buckets: buckets.len(),
+        };
+        let called = Called::answered(header.missing(true, lengths), header);
+        return Outcome { called, worker };
     }
-    Answer::Short
-}
-
-// What the register hands back, the record apart.
-fn apart(out: Outcome) -> Served
-    ensures { λ r. ⌜ r ≡ apart out ⌝ }
-{
-    let answer = out.answer;
-    let header = out.header;
-    let worker = out.worker;
-    let called = Called {
-        answer,
-        steps: out.steps,
-        header,
-    };
-    Served { called, worker }
+    turn.call(call, nodes, buckets)
 }
 
 // The answer is 0, going on.
 fn goes_on(out: Outcome) -> bool
-    ensures { λ r. ⌜ r ≡ going (out .answer) ⌝ }
+    ensures { λ r. ⌜ r ≡ goesOn (out .called .answer) ⌝ }
 {
-    let answer = out.answer;
-    answer.number() == 0
+    let called = out.called;
+    let answer = called.answer;
+    answer.goes_on()
 }
 
 // Up to so many steps with the record in hand, ending after the first whose answer isn't 0.
@@ -106,28 +92,26 @@ fn steps_one(
     worker: Worker,
     w: u32,
     header: Header,
-    most: u64,
+    few: bool,
+    most: u32,
     nodes: &mut [u32],
     buckets: &mut [u32],
 ) -> Outcome
-    ensures { λ r. ⌜ after r (now (nodes .exit)) (now (buckets .exit)) ≡ mostOf w most (after (handedBack Going header worker) (now (nodes .entry)) (now (buckets .entry))) ⌝ }
+    ensures { λ r. ⌜ left r (tables (now (nodes .exit)) (now (buckets .exit))) ≡ mostOf w few most (left (handedBack Going header worker) (tables (now (nodes .entry)) (now (buckets .entry)))) ⌝ }
 {
-    let mut out = Outcome {
-        answer: Answer::Going,
-        steps: 0,
-        header,
-        worker,
-    };
+    let called = Called::answered(Answer::Going, header);
+    let mut out = Outcome { called, worker };
     let mut left = most;
     while (0 < left) & goes_on(out) {
-        let header = out.header;
+        let called = out.called;
+        let header = called.header;
         let worker = out.worker;
         let turn = Turn {
             number: w,
             header,
             worker,
         };
-        out = turn.call(Ask::Step, nodes, buckets);
+        out = one_call(turn, few, Call::Step, nodes, buckets);
         left -= 1;
     }
     out
@@ -140,15 +124,13 @@ fn serve_one(
     w: u32,
     header: Header,
     call: Call,
+    most: u32,
     nodes: &mut [u32],
     buckets: &mut [u32],
-) -> Served
-    ensures { λ r. ⌜ after (outcome r) (now (nodes .exit)) (now (buckets .exit)) ≡ serveOne (turn header w worker) len call (now (nodes .entry)) (now (buckets .entry)) ⌝ }
+) -> Outcome
+    ensures { λ r. ⌜ left r (tables (now (nodes .exit)) (now (buckets .exit))) ≡ serveOne (turn header w worker) len call most (tables (now (nodes .entry)) (now (buckets .entry))) ⌝ }
 {
-    if (len as u64) < (header.w as u64) {
-        let called = refused(too_few(header), header);
-        return Served { called, worker };
-    }
+    let few = (len as u64) < (header.w as u64);
     match call {
         Call::Start { kind, key } => {
             let turn = Turn {
@@ -156,32 +138,30 @@ fn serve_one(
                 header,
                 worker,
             };
-            apart(turn.call(Ask::Start { kind, key }, nodes, buckets))
+            one_call(turn, few, Call::Start { kind, key }, nodes, buckets)
         }
-        Call::Steps { more } => {
-            let most = (more as u64) + 1;
-            apart(steps_one(worker, w, header, most, nodes, buckets))
-        }
+        Call::Step => steps_one(worker, w, header, few, most, nodes, buckets),
     }
 }
 
-// Worker w is called, on its record in the table.
+// Worker w is called, on its record in the table; a step is made up to `most` times, ending after the first whose answer isn't 0.
 pub fn serve(
     workers: &mut [Worker],
     w: u32,
     header: Header,
     call: Call,
+    most: u32,
     nodes: &mut [u32],
     buckets: &mut [u32],
 ) -> Called
-    ensures { λ r. ⌜ left r (now (workers .exit)) (now (nodes .exit)) (now (buckets .exit)) ≡ serveAt header (now (workers .entry)) w call (now (nodes .entry)) (now (buckets .entry)) ⌝ }
+    ensures { λ r. ⌜ left (crew r (now (workers .exit))) (tables (now (nodes .exit)) (now (buckets .exit))) ≡ serveAt header (now (workers .entry)) w call most (tables (now (nodes .entry)) (now (buckets .entry))) ⌝ }
 {
     let len = workers.len();
     let at = w as usize;
     if len <= at {
-        return past(header, len, nodes.len(), buckets.len());
+        return past(header, call, most, len, nodes.len(), buckets.len());
     }
-    let out = serve_one(workers[at], len, w, header, call, nodes, buckets);
+    let out = serve_one(workers[at], len, w, header, call, most, nodes, buckets);
     workers[at] = out.worker;
     out.called
 }
@@ -206,18 +186,12 @@ fn too_few_for(limits: Limits) -> Answer
 }
 
 // A prepared register wants W idle records, a refused one none.
-fn wants(w: u32, out: Prepared) -> Ready
-    ensures { λ r. ⌜ r ≡ wants w out ⌝ }
+fn wants(w: u32, called: Called) -> Ready
+    ensures { λ r. ⌜ r ≡ wants w called ⌝ }
 {
-    let answer = out.answer;
-    let header = out.header;
-    let called = Called {
-        answer,
-        steps: 0,
-        header,
-    };
+    let answer = called.answer;
     let worker = Worker::fresh(place::IDLE, 0, 0);
-    if answer.number() == 0 {
+    if answer.goes_on() {
         return Ready {
             called,
             count: w as usize,
@@ -239,14 +213,13 @@ fn prepare_one(
     nodes: &mut [u32],
     buckets: &mut [u32],
 ) -> Ready
-    ensures { λ r. ⌜ wanted r (now (nodes .exit)) (now (buckets .exit)) ≡ prepareOne limits len header (now (nodes .entry)) (now (buckets .entry)) ⌝ }
+    ensures { λ r. ⌜ left r (tables (now (nodes .exit)) (now (buckets .exit))) ≡ prepareOne limits len header (tables (now (nodes .entry)) (now (buckets .entry))) ⌝ }
 {
     if (len as u64) < (limits.w as u64) {
-        let answer = too_few_for(limits);
-        return wants(limits.w, Prepared { answer, header });
+        return wants(limits.w, Called::answered(too_few_for(limits), header));
     }
-    let out = limits.prepare(header, nodes, buckets);
-    wants(limits.w, out)
+    let called = limits.prepare(header, nodes, buckets);
+    wants(limits.w, called)
 }
 
 // The first n records become x.
@@ -269,7 +242,7 @@ pub fn prepare(
     nodes: &mut [u32],
     buckets: &mut [u32],
 ) -> Called
-    ensures { λ r. ⌜ left r (now (workers .exit)) (now (nodes .exit)) (now (buckets .exit)) ≡ prepareAt limits header (now (workers .entry)) (now (nodes .entry)) (now (buckets .entry)) ⌝ }
+    ensures { λ r. ⌜ left (crew r (now (workers .exit))) (tables (now (nodes .exit)) (now (buckets .exit))) ≡ prepareAt limits header (now (workers .entry)) (tables (now (nodes .entry)) (now (buckets .entry))) ⌝ }
 {
     let len = workers.len();
     let ready = prepare_one(limits, len, header, nodes, buckets);

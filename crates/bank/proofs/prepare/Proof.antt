@@ -16,7 +16,7 @@ use prog.Routine.{Routine}
 use prog.Wp.{Heap, Calls, Loops, WpFn, Tables}
 use ghost.Atoms.{Atoms, sem}
 use contract.Monad.{Fun, fact}
-use contract.Running.{givenOf, tables, tablesOf}
+use contract.Running.{givenOf, tables as running, tablesOf}
 use types.Kit.{Given, ‵, raw, _⊛_, ⋆, some, later, _$_, _∵_, !, qed, by, move, keep, drop, use1, use2, use3, split, join, pick, rewrite, fsplit, fjoin, feqL, feqI, suffices, frame, await, done}
 use types.Part.{agg, whole, sub, look-in}
 use types.Run.{look, init, stop, hop, fld, from, load, lit, addr, of-opd, and-then, no-more, assigns, land, returns, enter, alloc1, alloc0, params1, pass1, pass0}
@@ -47,8 +47,9 @@ use denote.Triple.Walked.{says, Stays, gave-slice, stay-none, walkOf, Walks, end
 use denote.Exit.{yes}
 use Rattle.header.specs.declared.Header.{Header}
 use Rattle.record.specs.declared.Worker.{Worker}
-use Rattle.crew.specs.declared.Called.{Called}
-use Rattle.crew.specs.Crew.{left, prepareAt}
+use Rattle.acts.specs.declared.Called.{Called}
+use Rattle.words.specs.Words.{tables, left}
+use Rattle.crew.specs.Crew.{crew, prepareAt}
 use Rattle.crew.proofs.Walk.{full, leaves, rowW, machH, machL, typedH, typedL}
 use Rattle.bank.proofs.Walk.{rowA, mirA, machA, room16, bank, machB, is-bank, typedA, into-part, from-part, makes-array}
 use Rattle.prepare.specs.declared.Limits.{Limits}
@@ -58,8 +59,8 @@ use Rattle.record.proofs.Worker as tyW
 use Rattle.record.proofs.Worker.Laws as lawW
 use Rattle.header.proofs.Header as tyH
 use Rattle.header.proofs.Header.Laws as lawH
-use Rattle.crew.proofs.Called as tyC
-use Rattle.crew.proofs.Called.Laws as lawC
+use Rattle.acts.proofs.Called as tyC
+use Rattle.acts.proofs.Called.Laws as lawC
 use Rattle.bank.proofs.Bank as tyB
 use Rattle.bank.proofs.Bank.Laws as lawB
 use Rattle.crew.proofs.prepare as at′
@@ -109,7 +110,7 @@ module _ {M : Type 1} (𝓤 : URA M) (H : Heap 𝓤) (A : Atoms 𝓤) (W : Given
 
   -- what both contracts say
   abbrev Says : Called → List Worker → List ℕ → List ℕ → Type 0
-  Says r zs m₁ m₂ = left r zs m₁ m₂ ≡ prepareAt limits header ys n₁ n₂
+  Says r zs m₁ m₂ = left (crew r zs) (tables m₁ m₂) ≡ prepareAt limits header ys (tables n₁ n₂)
 
   exits : (r : Called) (zs : List Worker) (m₁ m₂ : List ℕ) → Is tyB.the-row (bank r zs) (machB r zs ∷ []) → Says r zs m₁ m₂ → length m₁ ≡ length n₁ → length m₂ ≡ length n₂
       → ent 𝓤 (⋆ 𝓤 H A ((‵ (flft κ₁ q₁) ⊛ ‵ (flft κ₂ q₂) ⊛ ‵ ftrue) ∷ ‵ (finally u32 γ₁ m₁) ∷ ‵ (finally u32 γ₂ m₂) ∷ [])) (Post (machB r zs))
@@ -179,6 +180,6 @@ pub prepare-spec : {M : Type 1} → stated.statement M
 unfolding code.routine tablesOf
 prepare-spec 𝓤 H 𝓜 𝓖 𝓡 =
     entered 𝓤 H (tripleOf 𝓤 H (𝓖 .A) it.signature (it.spec 𝓤 H (𝓖 .A) (𝓜 .mem) (𝓡 .run)))
-    (tables 𝓤 H 𝓜 𝓡 code.env .C) (tables 𝓤 H 𝓜 𝓡 code.env .Λ) #it code.function (code.unfolded 𝓤 H 𝓜 𝓡)
-    (meets 𝓤 H (𝓖 .A) (givenOf 𝓤 H 𝓜 𝓖) (𝓜 .mem) (𝓡 .run) (tablesOf 𝓤 H 𝓜 (tables 𝓤 H 𝓜 𝓡 code.env))
+    (running 𝓤 H 𝓜 𝓡 code.env .C) (running 𝓤 H 𝓜 𝓡 code.env .Λ) #it code.function (code.unfolded 𝓤 H 𝓜 𝓡)
+    (meets 𝓤 H (𝓖 .A) (givenOf 𝓤 H 𝓜 𝓖) (𝓜 .mem) (𝓡 .run) (tablesOf 𝓤 H 𝓜 (running 𝓤 H 𝓜 𝓡 code.env))
     (cited 𝓤 H (At 𝓤 H (𝓖 .A) (𝓜 .mem) (𝓡 .run)) 𝓜 𝓡 code.env #at at-def.routine code.calls-crew·prepare (at-thm.met 𝓤 H 𝓜 𝓖 𝓡)))

@@ -1,13 +1,13 @@
--- The number is the answer's own.
+-- The answer says whether it goes on.
 -- Assumes nothing.
 use Rattle.crew.proofs.goes_on.Statement.{statement}
 use Rattle.crew.proofs.goes_on.Tie as tie
 
-number-requires : tie.Need-number-requires
-number-requires c κs = tt
+goes-on-requires : tie.Need-goes-on-requires
+goes-on-requires c κs = tt
 
 returns : tie.Need-returns
-returns c = rw (c .number .ensures)
+returns c = c .goes-on .ensures
 
 pub goes-on-spec : {M : Type 1} → statement M
-goes-on-spec = tie.close (tie.spec number-requires returns)
+goes-on-spec = tie.close (tie.spec goes-on-requires returns)

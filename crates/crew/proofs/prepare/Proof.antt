@@ -16,7 +16,7 @@ use prog.Routine.{Routine}
 use prog.Wp.{Heap, Calls, Loops, WpFn, Tables}
 use ghost.Atoms.{Atoms, sem}
 use contract.Monad.{Fun, fact}
-use contract.Running.{givenOf, tables, tablesOf}
+use contract.Running.{givenOf, tables as running, tablesOf}
 use types.Kit.{Given, ‵, raw, _⊛_, ⋆, some, later, _$_, _∵_, !, qed, by, move, keep, drop, use1, use2, split, join, pick, rewrite, fsplit, fjoin, feqL, suffices, frame, await, done}
 use types.Part.{agg, whole, sub, look-in}
 use types.Run.{look, init, stop, hop, fld, from, load, addr, of-opd, and-then, no-more, assigns, land, returns, enter, alloc1, alloc0, params1, pass1, pass0}
@@ -41,10 +41,10 @@ use denote.Exit.{yes}
 use Rattle.header.specs.declared.Header.{Header}
 use Rattle.record.specs.declared.Worker.{Worker}
 use Rattle.prepare.specs.declared.Limits.{Limits}
-use Rattle.crew.specs.declared.Called.{Called}
+use Rattle.acts.specs.declared.Called.{Called}
 use Rattle.crew.specs.declared.Ready.{Ready}
-use Rattle.crew.specs.Crew.{left, filled, prepareAt}
-use Rattle.crew.specs.One.{wanted, prepareOne}
+use Rattle.words.specs.Words.{tables, left}
+use Rattle.crew.specs.Crew.{crew, filled, prepareOne, prepareAt}
 use Rattle.crew.proofs.Laws.{prepare-in, prepare-fits}
 use Rattle.crew.proofs.Walk.{full, leaves, rowW, machW, machH, machL, machC, typedH, typedL, typedC}
 use Rattle.record.proofs.Worker as tyW
@@ -53,8 +53,8 @@ use Rattle.header.proofs.Header as tyH
 use Rattle.header.proofs.Header.Laws as lawH
 use Rattle.prepare.proofs.Limits as tyL
 use Rattle.prepare.proofs.Limits.Laws as lawL
-use Rattle.crew.proofs.Called as tyC
-use Rattle.crew.proofs.Called.Laws as lawC
+use Rattle.acts.proofs.Called as tyC
+use Rattle.acts.proofs.Called.Laws as lawC
 use Rattle.crew.proofs.Ready as tyR
 use Rattle.crew.proofs.Ready.Laws as lawR
 use Rattle.crew.proofs.prepare_one as one
@@ -124,10 +124,10 @@ module _ {M : Type 1} (𝓤 : URA M) (H : Heap 𝓤) (A : Atoms 𝓤) (W : Given
 
   -- what the contract says, and what `prepare_one`'s says
   abbrev Says : Called → List Worker → List ℕ → List ℕ → Type 0
-  Says r zs m₁ m₂ = left r zs m₁ m₂ ≡ prepareAt limits header ys n₁ n₂
+  Says r zs m₁ m₂ = left (crew r zs) (tables m₁ m₂) ≡ prepareAt limits header ys (tables n₁ n₂)
 
   abbrev Wants : Ready → List ℕ → List ℕ → Type 0
-  Wants r m₁ m₂ = wanted r m₁ m₂ ≡ prepareOne limits (length ys) header n₁ n₂
+  Wants r m₁ m₂ = left r (tables m₁ m₂) ≡ prepareOne limits (length ys) header (tables n₁ n₂)
 
   exits : (r : Called) (zs : List Worker) (m₁ m₂ : List ℕ) → Is tyC.the-row r (machC r ∷ []) → Says r zs m₁ m₂ → length zs ≡ length ys → length m₁ ≡ length n₁ → length m₂ ≡ length n₂
       → ent 𝓤 (⋆ 𝓤 H A (‵ (flft κ q) ∷ (‵ (flft κ₁ q₁) ⊛ ‵ (flft κ₂ q₂) ⊛ ‵ ftrue) ∷ ‵ (finally rowW γ zs) ∷ ‵ (finally u32 γ₁ m₁) ∷ ‵ (finally u32 γ₂ m₂) ∷ [])) (Post (machC r))
@@ -171,14 +171,14 @@ module _ {M : Type 1} (𝓤 : URA M) (H : Heap 𝓤) (A : Atoms 𝓤) (W : Given
         fsplit ! $ drop ! $ fsplit ! $ drop ! $ fsplit ! $ drop ! $ fsplit ! $ fsplit ! $ move ! (1 ∷ []) $ feqL ! (λ e₁. move ! (1 ∷ []) $ fsplit ! $ fsplit ! $ move ! (1 ∷ []) $ feqL ! (λ e₂. move ! (3 ∷ []) $ split ! $ move ! (1 ∷ []) $ peeks ! tyR.the-row (Is tyR.the-row) (shows 𝓤 H A tyR.the-row) r (v ∷ []) (λ is.
         land ! (from ! (stop !)) (init ! 21 refl (LL.lawful tyR.the-type lawR.the-laws 𝓤 H A W .typed r _ is .0)) $ rewrite ! 21 (λ (u : Val). ‵ (fat fullShare lawR.mir l₇ 0 u)) (ap only (LL.tells tyR.the-type lawR.the-laws r _ is)) refl $
         -- `fill` is called with the records that are wanted: the table goes to it at its own lifetime
-        assigns ! (addr ! (from ! (fld ! refl (hop ! (look-in ! 33 (sub ! 0 refl (whole !))) (stop !))))) (from ! (stop !)) (init ! 9 refl (tt, tt)) $ assigns ! (agg ! (and-then ! (load ! (from ! (stop !)) (look ! 9 refl)) (and-then ! (load ! (from ! (fld ! refl (stop !))) (look-in ! 33 (sub ! 1 refl (whole !)))) (no-more !)))) (from ! (stop !)) (init ! 7 refl (tt, (tt, (record { fits = gn .0 }, tt)))) $ move ! (5 ∷ 6 ∷ []) $ use2 W (raw (Fill 𝓤 H A mem run .pre (to-fill r))) (goes-fill r (count-of r _ is) (worker-of r _ is) (prepare-fits limits header ys n₁ n₂ r (ms .1 .1 .1 .0) (ms .1 .1 .1 .1 .0) e)) $
+        assigns ! (addr ! (from ! (fld ! refl (hop ! (look-in ! 33 (sub ! 0 refl (whole !))) (stop !))))) (from ! (stop !)) (init ! 9 refl (tt, tt)) $ assigns ! (agg ! (and-then ! (load ! (from ! (stop !)) (look ! 9 refl)) (and-then ! (load ! (from ! (fld ! refl (stop !))) (look-in ! 33 (sub ! 1 refl (whole !)))) (no-more !)))) (from ! (stop !)) (init ! 7 refl (tt, (tt, (record { fits = gn .0 }, tt)))) $ move ! (5 ∷ 6 ∷ []) $ use2 W (raw (Fill 𝓤 H A mem run .pre (to-fill r))) (goes-fill r (count-of r _ is) (worker-of r _ is) (prepare-fits limits header ys (tables n₁ n₂) r (tables (ms .1 .1 .1 .0) (ms .1 .1 .1 .1 .0)) e)) $
         calls-at ! fm (Fill 𝓤 H A mem run) known-fill (to-fill r) (and-then ! (load ! (from ! (stop !)) (look ! 6 refl)) (and-then ! (load ! (from ! (fld ! refl (stop !))) (look-in ! 20 (sub ! 1 refl (whole !)))) (and-then ! (load ! (from ! (fld ! refl (stop !))) (look-in ! 20 (sub ! 2 refl (whole !)))) (no-more !)))) (λ u.
         use1 W (later (some (λ (t : Unit {0}). ((‵ (flft κ q) ⊛ ‵ ftrue) ⊛ ‵ (unit .own t (u ∷ []))) ⊛ raw (ensured 𝓤 H A fill′.ended (fill′.clauses 𝓤 H A mem run) (κ, tt) (x ys, (r .count, (r .worker, tt))) tt t)))) (id⊢ 𝓤 _) $ await ! tt $ pick ! (λ t.
         split ! $ move ! (1 ∷ []) $ use1 W (some (λ (zs : List Worker × (Unit {0} × (Unit {0} × Unit {0}))). ‵ (lasts fill′.ended (κ, tt) (x ys, (r .count, (r .worker, tt))) zs) ⊛ raw (fact 𝓤 (zs .0 ≡ filled (r .count) (r .worker) ys)))) (id⊢ 𝓤 _) $ pick ! (λ zs.
         split ! $ move ! (1 ∷ []) $ heard ! (zs .0 ≡ filled (r .count) (r .worker) ys) (λ f.
         fsplit ! $ fsplit ! $ move ! (1 ∷ []) $ feqL ! (λ e₀. move ! (2 ∷ []) $ split ! $ split ! $ move ! (2 ∷ []) $ feqL ! (λ nothing-is.
         land ! (from ! (stop !)) (init ! 13 refl (subst (λ (y : Val). Holds (hasTy tyUnit y) × WT y) (sym (ap only nothing-is)) (tt, tt))) $ assigns ! (of-opd ! (load ! (from ! (fld ! refl (stop !))) (look-in ! 23 (sub ! 0 refl (whole !))))) (from ! (stop !)) (init ! 37 refl (typedC 𝓤 H A W (r .called) (handed r _ is))) $
-        returns ! (look ! 37 refl) $ move ! (37 ∷ 38 ∷ 35 ∷ 36 ∷ 33 ∷ 34 ∷ 31 ∷ 32 ∷ 29 ∷ 30 ∷ 27 ∷ 28 ∷ 25 ∷ 26 ∷ 23 ∷ 24 ∷ 21 ∷ 22 ∷ 19 ∷ 20 ∷ 17 ∷ 18 ∷ 15 ∷ 16 ∷ 13 ∷ 14 ∷ 11 ∷ 12 ∷ 9 ∷ 10 ∷ []) $ leaves ! (full _ _ _ ∷ full _ _ _ ∷ full _ _ _ ∷ full _ _ _ ∷ full _ _ _ ∷ full _ _ _ ∷ full _ _ _ ∷ full _ _ _ ∷ full _ _ _ ∷ full _ _ _ ∷ full _ _ _ ∷ full _ _ _ ∷ full _ _ _ ∷ full _ _ _ ∷ full _ _ _ ∷ []) $ keep ! (0 ∷ 5 ∷ 2 ∷ 8 ∷ 6 ∷ []) $ by ! (exits (r .called) (zs .0) (ms .1 .1 .1 .0) (ms .1 .1 .1 .1 .0) (handed r _ is) (ap (λ (ws : List Worker). left (r .called) ws (ms .1 .1 .1 .0) (ms .1 .1 .1 .1 .0)) f ∙ prepare-in limits header ys n₁ n₂ r (ms .1 .1 .1 .0) (ms .1 .1 .1 .1 .0) e) e₀ e₁ e₂)))))))))))))))))))))))))))))
+        returns ! (look ! 37 refl) $ move ! (37 ∷ 38 ∷ 35 ∷ 36 ∷ 33 ∷ 34 ∷ 31 ∷ 32 ∷ 29 ∷ 30 ∷ 27 ∷ 28 ∷ 25 ∷ 26 ∷ 23 ∷ 24 ∷ 21 ∷ 22 ∷ 19 ∷ 20 ∷ 17 ∷ 18 ∷ 15 ∷ 16 ∷ 13 ∷ 14 ∷ 11 ∷ 12 ∷ 9 ∷ 10 ∷ []) $ leaves ! (full _ _ _ ∷ full _ _ _ ∷ full _ _ _ ∷ full _ _ _ ∷ full _ _ _ ∷ full _ _ _ ∷ full _ _ _ ∷ full _ _ _ ∷ full _ _ _ ∷ full _ _ _ ∷ full _ _ _ ∷ full _ _ _ ∷ full _ _ _ ∷ full _ _ _ ∷ full _ _ _ ∷ []) $ keep ! (0 ∷ 5 ∷ 2 ∷ 8 ∷ 6 ∷ []) $ by ! (exits (r .called) (zs .0) (ms .1 .1 .1 .0) (ms .1 .1 .1 .1 .0) (handed r _ is) (ap (λ (ws : List Worker). left (crew (r .called) ws) (tables (ms .1 .1 .1 .0) (ms .1 .1 .1 .1 .0))) f ∙ prepare-in limits header ys (tables n₁ n₂) r (tables (ms .1 .1 .1 .0) (ms .1 .1 .1 .1 .0)) e) e₀ e₁ e₂)))))))))))))))))))))))))))))
 
 module _ {M : Type 1} (𝓤 : URA M) (H : Heap 𝓤) (A : Atoms 𝓤) (W : Given 𝓤 H A) (mem : Memory → SProp 𝓤) (run : Routine → Fun 𝓤) where
   walks : (C : Calls 𝓤 H) (Λ : Loops 𝓤 H) → FmC 𝓤 H (W .laws) C → Triple 𝓤 (C #one) (One 𝓤 H A mem run) → Triple 𝓤 (C #fill) (Fill 𝓤 H A mem run) → Walks 𝓤 H A it.ended stayed (WpFn 𝓤 H C Λ code.function) (it.clauses 𝓤 H A mem run)
@@ -200,7 +200,7 @@ pub prepare-spec : {M : Type 1} → stated.statement M
 unfolding code.routine tablesOf
 prepare-spec 𝓤 H 𝓜 𝓖 𝓡 =
     entered 𝓤 H (tripleOf 𝓤 H (𝓖 .A) it.signature (it.spec 𝓤 H (𝓖 .A) (𝓜 .mem) (𝓡 .run)))
-    (tables 𝓤 H 𝓜 𝓡 code.env .C) (tables 𝓤 H 𝓜 𝓡 code.env .Λ) #it code.function (code.unfolded 𝓤 H 𝓜 𝓡)
-    (meets 𝓤 H (𝓖 .A) (givenOf 𝓤 H 𝓜 𝓖) (𝓜 .mem) (𝓡 .run) (tablesOf 𝓤 H 𝓜 (tables 𝓤 H 𝓜 𝓡 code.env))
+    (running 𝓤 H 𝓜 𝓡 code.env .C) (running 𝓤 H 𝓜 𝓡 code.env .Λ) #it code.function (code.unfolded 𝓤 H 𝓜 𝓡)
+    (meets 𝓤 H (𝓖 .A) (givenOf 𝓤 H 𝓜 𝓖) (𝓜 .mem) (𝓡 .run) (tablesOf 𝓤 H 𝓜 (running 𝓤 H 𝓜 𝓡 code.env))
     (cited 𝓤 H (One 𝓤 H (𝓖 .A) (𝓜 .mem) (𝓡 .run)) 𝓜 𝓡 code.env #one one-def.routine code.calls-crew·prepare-one (one-thm.met 𝓤 H 𝓜 𝓖 𝓡))
     (cited 𝓤 H (Fill 𝓤 H (𝓖 .A) (𝓜 .mem) (𝓡 .run)) 𝓜 𝓡 code.env #fill fill-def.routine code.calls-crew·fill (fill-thm.met 𝓤 H 𝓜 𝓖 𝓡)))

@@ -3,8 +3,9 @@
 use mathlib.Core.Path.{ap}
 use borrow.Author.Tests.{lt-ltb, le-ltb}
 use Rattle.choice.proofs.Auto.{then-is, else-is}
-use Rattle.prepare.specs.Prepare.{Kept}
-use Rattle.crew.specs.One.{prepareOne, wants, wanted}
+use Rattle.words.specs.Words.{Left, left}
+use Rattle.acts.specs.declared.Called.{Called}
+use Rattle.crew.specs.Crew.{prepareOne, wants}
 use borrow.Author.Needs.{needs}
 use Rattle.crew.proofs.prepare_one.Statement.{statement}
 use Rattle.crew.proofs.prepare_one.Tie as tie
@@ -15,12 +16,15 @@ cast-if1 c = search needs
 too-few-for-requires : tie.Need-too-few-for-requires
 too-few-for-requires c κs = tt
 
+answered-requires : tie.Need-answered-requires
+answered-requires c κs = tt
+
 wants-requires : tie.Need-wants-requires
 wants-requires c κs = tt
 
 returns : tie.Need-returns
 unfolding prepareOne
-returns c = then-is _ _ _ _ (lt-ltb _ _ (c .before .before .if1 .taken)) (rw (c .wants .ensures, c .before .too-few-for .ensures))
+returns c = then-is _ _ _ _ (lt-ltb _ _ (c .before .before .before .if1 .taken)) (rw (c .wants .ensures, c .before .answered .ensures, c .before .before .too-few-for .ensures))
 
 prepare-requires : tie.Need-prepare-requires
 prepare-requires c κs = tt
@@ -38,7 +42,7 @@ returns-2 : tie.Need-returns-2
 unfolding prepareOne
 returns-2 c =
     else-is _ _ _ _ (le-ltb _ _ (c .before .before .before .before .before .before .before .before .if1 .left))
-    (rw (c .wants2 .ensures) (ap (λ (k : Kept). wanted (wants (c .before .before .before .before .before .before .before .before .before .before .before .before .args .limits .w) (k .out)) (k .nodes) (k .buckets)) (c .before .before .before .before .before .prepare .ensures)))
+    (rw (c .wants2 .ensures) (ap (λ (l : Left Called). left (wants (c .before .before .before .before .before .before .before .before .before .before .before .before .args .limits .w) (l .out)) (l .tables)) (c .before .before .before .before .before .prepare .ensures)))
 
 pub prepare-one-spec : {M : Type 1} → statement M
 prepare-one-spec =
@@ -46,6 +50,7 @@ prepare-one-spec =
     (tie.spec
     cast-if1
     too-few-for-requires
+    answered-requires
     wants-requires
     returns
     prepare-requires
