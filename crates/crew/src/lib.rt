@@ -37,14 +37,7 @@ fn no_call(call: Call, most: u32) -> bool
 }
 
 // A worker past the table.
-fn past(
-    header: Header,
-    call: Call,
-    most: u32,
-    len: usize,
-    nodes: usize,
-    buckets: usize,
-) -> Called
+fn past(header: Header, call: Call, most: u32, len: usize, nodes: usize, buckets: usize) -> Called
     ensures { λ r. ⌜ r ≡ pastOf header call most len (record { nodes = nodes; buckets = buckets }) ⌝ }
 {
     if no_call(call, most) {
@@ -56,13 +49,7 @@ fn past(
 }
 
 // One call with the record in hand; where there are fewer records than W it is 12, then 11.
-fn one_call(
-    turn: Turn,
-    few: bool,
-    call: Call,
-    nodes: &mut [u32],
-    buckets: &mut [u32],
-) -> Outcome
+fn one_call(turn: Turn, few: bool, call: Call, nodes: &mut [u32], buckets: &mut [u32]) -> Outcome
     ensures { λ r. ⌜ left r (tables (now (nodes .exit)) (now (buckets .exit))) ≡ oneCall turn few call (tables (now (nodes .entry)) (now (buckets .entry))) ⌝ }
 {
     if few {

@@ -11,7 +11,7 @@ use lib.Dec.{ltb}
 use lib.ListN.{length}
 use lib.Seq.{getD-set-other}
 use Rattle.choice.proofs.Cases.{by-bool}
-use Rattle.words.specs.Words.{STANDING, TAKEN, word, put, bucket, store}
+use Rattle.words.specs.Words.{Tables, lengths, STANDING, TAKEN, word, put, bucket, store}
 use Rattle.words.proofs.Laws.{put-at, put-same, put-node, put-word, put-length, store-same, store-other, store-length}
 use Rattle.scans.specs.Scans.{cleared}
 use Rattle.scans.proofs.Laws.{cleared-length, cleared-below, cleared-beyond}
@@ -37,35 +37,35 @@ or-false true b e = absurd (true≢false e)
 or-false false b e = (refl, e)
 
 -- the tables' own words: enough of them, and a node and a bucket among them
-record Room (l : Limits) (ns bs : List ℕ) : Type 0 where
+record Room (l : Limits) (ts : Tables) : Type 0 where
   some : 2 ≤ l .m
-  nodes : nodesOf (freshHeader l) * 3 ≤ length ns
-  buckets : l .m ≤ length bs
+  nodes : nodesOf (freshHeader l) * 3 ≤ length (ts .nodes)
+  buckets : l .m ≤ length (ts .buckets)
 
-room : (l : Limits) (ns bs : List ℕ) → limitBroken (freshHeader l) ≡ false → isShort (freshHeader l) (length ns) (length bs) ≡ false → Room l ns bs
+room : (l : Limits) (ts : Tables) → limitBroken (freshHeader l) ≡ false → isShort (freshHeader l) (lengths ts) ≡ false → Room l ts
 unfolding isShort
-room l ns bs fine long =
-    let both = or-false (ltb (length ns) (nodesOf (freshHeader l) * 3)) (ltb (length bs) (l .m)) long in
+room l ts fine long =
+    let both = or-false (ltb (length (ts .nodes)) (nodesOf (freshHeader l) * 3)) (ltb (length (ts .buckets)) (l .m)) long in
     record {
       some = limits (freshHeader l) .sound fine .buckets .0;
-      nodes = ltb-false (length ns) (nodesOf (freshHeader l) * 3) (both .0);
-      buckets = ltb-false (length bs) (l .m) (both .1);
+      nodes = ltb-false (length (ts .nodes)) (nodesOf (freshHeader l) * 3) (both .0);
+      buckets = ltb-false (length (ts .buckets)) (l .m) (both .1);
     }
 
-module _ (l : Limits) (h : Header) (ns bs : List ℕ) (r : Room l ns bs) where
+module _ (l : Limits) (h : Header) (ts : Tables) (r : Room l ts) where
   N : ℕ
   N = nodesOf (freshHeader l)
 
   ms : List ℕ
-  ms = cleared (N * 3) ns
+  ms = cleared (N * 3) (ts .nodes)
 
   cs : List ℕ
-  cs = cleared (l .m) bs
+  cs = cleared (l .m) (ts .buckets)
 
   zeros : (n j : ℕ) → j < 3 → n ≤ N → word ms n j ≡ 0
   unfolding ms word
   zeros zero j hj hn = refl
-  zeros (suc n) j hj hn = cleared-below (N * 3) ns (3 * n + j) (omega arith)
+  zeros (suc n) j hj hn = cleared-below (N * 3) (ts .nodes) (3 * n + j) (omega arith)
 
   node-words : (n j : ℕ) → j < 3 → n ≤ N → ((n ≡ 1) × (j ≡ STANDING) → ⊥) → word (put ms 1 STANDING TAKEN) n j ≡ 0
   node-words n j hj hn other = by-node (ℕ-discrete n 1)
@@ -80,28 +80,28 @@ module _ (l : Limits) (h : Header) (ns bs : List ℕ) (r : Room l ns bs) where
 
   long : 3 * 1 ≤ length ms
   unfolding ms N
-  long = omega (arith, cleared-length (nodesOf (freshHeader l) * 3) ns, r .some, r .nodes)
+  long = omega (arith, cleared-length (nodesOf (freshHeader l) * 3) (ts .nodes), r .some, r .nodes)
 
-  fresh : Fresh l ns bs (preparedBy l h ns bs Pass)
+  fresh : Fresh l ts (preparedBy l h ts Pass)
   unfolding ms cs N bucket store
   fresh =
       record {
         header = refl;
         first-taken = put-same ms 1 STANDING TAKEN (omega arith) (omega arith) long;
         node-words = node-words;
-        first-bucket = store-same cs 0 1 (omega (arith, cleared-length (l .m) bs, r .some, r .buckets));
-        bucket-words = λ b hb ne. store-other cs 0 1 b ne ∙ cleared-below (l .m) bs b hb;
-        past-nodes = λ i hi. rw (put-at ms 1 STANDING TAKEN (omega arith)) (getD-set-other ms 2 i TAKEN 0 (omega (arith, r .some)) ∙ cleared-beyond (nodesOf (freshHeader l) * 3) ns i hi);
-        past-buckets = λ b hb. getD-set-other cs 0 b 1 0 (omega (arith, r .some)) ∙ cleared-beyond (l .m) bs b hb;
-        nodes-length = put-length ms 1 STANDING TAKEN ∙ cleared-length (nodesOf (freshHeader l) * 3) ns;
-        buckets-length = store-length cs 0 1 ∙ cleared-length (l .m) bs;
+        first-bucket = store-same cs 0 1 (omega (arith, cleared-length (l .m) (ts .buckets), r .some, r .buckets));
+        bucket-words = λ b hb ne. store-other cs 0 1 b ne ∙ cleared-below (l .m) (ts .buckets) b hb;
+        past-nodes = λ i hi. rw (put-at ms 1 STANDING TAKEN (omega arith)) (getD-set-other ms 2 i TAKEN 0 (omega (arith, r .some)) ∙ cleared-beyond (nodesOf (freshHeader l) * 3) (ts .nodes) i hi);
+        past-buckets = λ b hb. getD-set-other cs 0 b 1 0 (omega (arith, r .some)) ∙ cleared-beyond (l .m) (ts .buckets) b hb;
+        nodes-length = put-length ms 1 STANDING TAKEN ∙ cleared-length (nodesOf (freshHeader l) * 3) (ts .nodes);
+        buckets-length = store-length cs 0 1 ∙ cleared-length (l .m) (ts .buckets);
       }
 
 pub prepare-fresh : PrepareFresh
 unfolding prepared prepareVerdict
-prepare-fresh l h ns bs =
+prepare-fresh l h ts =
     by-bool P _ (λ _. refusing Limit refl)
-    (λ fine. by-bool P _ (λ _. refusing Short refl) (λ long _. fresh l h ns bs (room l ns bs fine long)))
+    (λ fine. by-bool P _ (λ _. refusing Short refl) (λ long _. fresh l h ts (room l ts fine long)))
   where
     P : Verdict → Type 0
-    P v = preparedBy l h ns bs v .out .answer ≡ Going → Fresh l ns bs (preparedBy l h ns bs v)
+    P v = preparedBy l h ts v .out .answer ≡ Going → Fresh l ts (preparedBy l h ts v)

@@ -8,7 +8,6 @@ use native.Mathlib.Decide.{ℕ-discrete}
 use native.Mathlib.Omega.{arith}
 use borrow.Author.Tests.{ltb-false, leb-false}
 use lib.Dec.{ltb}
-use lib.ListN.{length}
 use Rattle.choice.specs.Choice.{pick}
 use Rattle.choice.proofs.Cases.{both, by-bool}
 use Rattle.scans.specs.Scans.{lowest}
@@ -24,7 +23,9 @@ use Rattle.moves.specs.Moves.{heldFor, decided}
 use Rattle.register.specs.declared.Turn.{Turn}
 use Rattle.names.specs.declared.Verdict.{Verdict}
 use Rattle.names.specs.declared.Verdict.the-variants.{Pass, Refused}
-use Rattle.writes.specs.Carry.{After, after}
+use Rattle.words.specs.declared.Lengths.{Lengths}
+use Rattle.words.specs.Words.{Tables, lengths, Left, left}
+use Rattle.acts.specs.declared.Outcome.{Outcome}
 use Rattle.register.specs.Step.{refusedWith, wordGiven, wordAt, wordFor, seenBy, carried}
 use Rattle.register.specs.Calls.{steppedBy, stepVerdict, stepOf}
 use Rattle.promises.specs.Access.{placeOf}
@@ -73,9 +74,9 @@ refused : {X : Type 0} (a : Answer) → Refused a ≡ Pass → X
 refused a e = let z : _≡_ {A = ℕ} 0 1 = cc in absurd (omega arith)
 
 -- the turn passes, so its record is in range
-pub pass-range : (t : Turn) (nodes buckets : ℕ) → stepVerdict t nodes buckets ≡ Pass → InRange (t .header) (t .worker)
+pub pass-range : (t : Turn) (lengths : Lengths) → stepVerdict t lengths ≡ Pass → InRange (t .header) (t .worker)
 unfolding stepVerdict
-pass-range t nodes buckets =
+pass-range t lengths =
     by-bool P _ (λ _. refused _)
     (λ _. by-bool P _ (λ _. refused _)
     (λ _. by-bool P _ (λ _. refused _)
@@ -107,21 +108,21 @@ lowest-le ns from to = by-zero (ℕ-discrete (lowest ns from to) 0)
     by-zero (yes e) = omega arith
     by-zero (no ne) = lowest-free ns from to (lowest ns from to) refl ne .1
 
-pub found-key : (t : Turn) (ns bs : List ℕ) → placeOf t ≡ I1 → wordFor t ns bs ≤ nodesOf (t .header)
+pub found-key : (t : Turn) (ts : Tables) → placeOf t ≡ I1 → wordFor t ts ≤ nodesOf (t .header)
 unfolding wordFor wordAt wordGiven pick
-found-key t ns bs p = rw p (lowest-le ns _ _)
+found-key t ts p = rw p (lowest-le (ts .nodes) _ _)
 
-pub found-dummy : (t : Turn) (ns bs : List ℕ) → placeOf t ≡ B4 → wordFor t ns bs ≤ nodesOf (t .header)
+pub found-dummy : (t : Turn) (ts : Tables) → placeOf t ≡ B4 → wordFor t ts ≤ nodesOf (t .header)
 unfolding wordFor wordAt wordGiven pick
-found-dummy t ns bs p = rw p (omega (arith, lowest-le ns 1 (dummiesOf (t .header))))
+found-dummy t ts p = rw p (omega (arith, lowest-le (ts .nodes) 1 (dummiesOf (t .header))))
 
 -- a step is refused by its verdict, or its record is in range and its decision is carried out
 pub by-verdict :
-    (t : Turn) (ns bs : List ℕ) (P : After → Type 0) → ((a : Answer) → P (after (refusedWith a t) ns bs))
-    → (InRange (t .header) (t .worker) → P (carried t (decided (seenBy t ns bs)) ns bs)) → P (stepOf t ns bs)
+    (t : Turn) (ts : Tables) (P : Left Outcome → Type 0) → ((a : Answer) → P (left (refusedWith a t) ts))
+    → (InRange (t .header) (t .worker) → P (carried t (decided (seenBy t ts)) ts)) → P (stepOf t ts)
 unfolding stepOf
-by-verdict t ns bs P no-words words = go (stepVerdict t (length ns) (length bs)) refl
+by-verdict t ts P no-words words = go (stepVerdict t (lengths ts)) refl
   where
-    go : (v : Verdict) → stepVerdict t (length ns) (length bs) ≡ v → P (steppedBy t ns bs v)
+    go : (v : Verdict) → stepVerdict t (lengths ts) ≡ v → P (steppedBy t ts v)
     go (Refused a) e = no-words a
-    go Pass e = words (pass-range t (length ns) (length bs) e)
+    go Pass e = words (pass-range t (lengths ts) e)

@@ -1,16 +1,14 @@
 -- A step looks at the tables through their lengths and the word at its place alone, so tables that agree there get the same decision.
 -- Assumes nothing.
 use Prim.Native.Nat.{ℕ}
-use mathlib.Core.List.{List}
-use mathlib.Core.Path.{_≡_, refl, ap, ap₂, _∙_}
+use mathlib.Core.Path.{_≡_, refl, sym, ap, ap₂, subst, _∙_}
 use native.Mathlib.Omega.{arith}
 use lib.Dec.{eqb}
-use lib.ListN.{length}
 use Rattle.choice.specs.Choice.{pick}
 use Rattle.choice.proofs.Cases.{by-eq}
 use Rattle.choice.proofs.Auto.{pick-true, pick-false}
 use borrow.Author.Tests.{eq-eqb, ne-eqb}
-use Rattle.words.specs.Words.{word}
+use Rattle.words.specs.Words.{Tables, lengths, bucket}
 use Rattle.scans.proofs.Laws.{lowest-reads}
 use Rattle.names.specs.Names.{I1, TB, B2, B4, F1, F2, F3, F4, L2, D4A, D4B}
 use Rattle.moves.specs.declared.Seen.{Seen}
@@ -20,7 +18,7 @@ use Rattle.moves.specs.Moves.{decided}
 use Rattle.register.specs.declared.Turn.{Turn}
 use Rattle.names.specs.declared.Verdict.{Verdict}
 use Rattle.names.specs.declared.Verdict.the-variants.{Pass, Refused}
-use Rattle.register.specs.Step.{wordGiven, bucketAt, wordAt, wordFor, splitFor, seenBy, carried}
+use Rattle.register.specs.Step.{wordGiven, askedAt, wordAt, wordFor, splitFor, seenBy, carried}
 use Rattle.register.specs.Calls.{steppedBy, stepVerdict, stepOf}
 use Rattle.promises.specs.Access as A
 use Rattle.promises.specs.Access.{Reads, Agree, placeOf, ofNode, splitKey, standing}
@@ -33,22 +31,27 @@ at-place p k a b c d here there =
     (λ e. here e ∙ rw (pick-true (eqb p k) c d (eq-eqb p k e)))
     (λ n. there ∙ rw (pick-false (eqb p k) c d (ne-eqb p k n)))
 
-module _ (t : Turn) (ns bs ks cs : List ℕ) (agree : Agree (Reads t) (t .header) ns bs ks cs) where
-  -- the value of the bucket that is read
-  value-same : bucketAt (placeOf t) t bs ≡ bucketAt (placeOf t) t cs
-  unfolding bucketAt
-  value-same =
-      at-place (placeOf t) TB _ _ _ _ (λ p. agree .same _ (A.tb p))
-      (at-place (placeOf t) B2 _ 0 _ 0 (λ p. agree .same _ (A.b2 p)) refl)
+module _ (t : Turn) (ts us : Tables) (agree : Agree (Reads t) (t .header) ts us) where
+  -- the bucket that is read
+  abbrev SameBucket : ℕ → Type 0
+  SameBucket k = bucket (ts .buckets) (askedAt k (t .worker)) ≡ bucket (us .buckets) (askedAt k (t .worker))
+
+  at-tb : placeOf t ≡ TB → SameBucket (placeOf t)
+  unfolding askedAt pick
+  at-tb p = subst SameBucket (sym p) (agree .same _ (A.tb p))
+
+  at-b2 : placeOf t ≡ B2 → SameBucket (placeOf t)
+  unfolding askedAt pick
+  at-b2 p = subst SameBucket (sym p) (agree .same _ (A.b2 p))
 
   -- the word that is read
-  word-same : wordFor t ns bs ≡ wordFor t ks cs
+  word-same : wordFor t ts ≡ wordFor t us
   unfolding wordFor wordAt wordGiven
   word-same =
-      at-place (placeOf t) I1 _ _ _ _ (λ p. lowest-reads ns ks _ _ (λ n a b. agree .same (ofNode n standing) (A.i1 p n (omega arith) b)))
-      (at-place (placeOf t) TB _ _ _ _ (λ _. value-same)
-      (at-place (placeOf t) B2 _ _ _ _ (λ _. value-same)
-      (at-place (placeOf t) B4 _ _ _ _ (λ p. lowest-reads ns ks _ _ (λ n a b. agree .same (ofNode n standing) (A.b4 p n a b)))
+      at-place (placeOf t) I1 _ _ _ _ (λ p. lowest-reads (ts .nodes) (us .nodes) _ _ (λ n a b. agree .same (ofNode n standing) (A.i1 p n (omega arith) b)))
+      (at-place (placeOf t) TB _ _ _ _ at-tb
+      (at-place (placeOf t) B2 _ _ _ _ at-b2
+      (at-place (placeOf t) B4 _ _ _ _ (λ p. lowest-reads (ts .nodes) (us .nodes) _ _ (λ n a b. agree .same (ofNode n standing) (A.b4 p n a b)))
       (at-place (placeOf t) F1 _ _ _ _ (λ p. agree .same _ (A.f1 p))
       (at-place (placeOf t) F2 _ _ _ _ (λ p. agree .same _ (A.f2 p))
       (at-place (placeOf t) F3 _ _ _ _ (λ p. agree .same _ (A.f3 p))
@@ -59,38 +62,38 @@ module _ (t : Turn) (ns bs ks cs : List ℕ) (agree : Agree (Reads t) (t .header
       refl))))))))))
 
   -- the split key that is read
-  split-same : splitFor t ns ≡ splitFor t ks
+  split-same : splitFor t (ts .nodes) ≡ splitFor t (us .nodes)
   unfolding splitFor
   split-same = at-place (placeOf t) F3 _ 0 _ 0 (λ p. agree .same (ofNode (t .worker .cur) splitKey) (A.f3-key p)) refl
 
   -- what is seen, and so what is decided
-  seen-same : seenBy t ns bs ≡ seenBy t ks cs
+  seen-same : seenBy t ts ≡ seenBy t us
   seen-same = ap₂ {C = Seen} (λ (w k : ℕ). record { header = t .header; worker = t .worker; word = w; split = k }) word-same split-same
 
-  decided-same : decided (seenBy t ns bs) ≡ decided (seenBy t ks cs)
+  decided-same : decided (seenBy t ts) ≡ decided (seenBy t us)
   decided-same = ap decided seen-same
 
-  verdict-same : stepVerdict t (length ns) (length bs) ≡ stepVerdict t (length ks) (length cs)
+  verdict-same : stepVerdict t (lengths ts) ≡ stepVerdict t (lengths us)
   unfolding stepVerdict
   verdict-same = rw (agree .short)
 
-  carried-same : (m : Move) → carried t m ns bs .out ≡ carried t m ks cs .out
+  carried-same : (m : Move) → carried t m ts .out ≡ carried t m us .out
   carried-same Damaged = refl
   carried-same (Going x e) = refl
   carried-same (Ended a e) = refl
 
-  stepped-same : (v : Verdict) → steppedBy t ns bs v .out ≡ steppedBy t ks cs v .out
+  stepped-same : (v : Verdict) → steppedBy t ts v .out ≡ steppedBy t us v .out
   stepped-same (Refused a) = refl
-  stepped-same Pass = carried-same (decided (seenBy t ns bs)) ∙ ap (λ (m : Move). carried t m ks cs .out) decided-same
+  stepped-same Pass = carried-same (decided (seenBy t ts)) ∙ ap (λ (m : Move). carried t m us .out) decided-same
 
-  outcome-same : stepOf t ns bs .out ≡ stepOf t ks cs .out
+  outcome-same : stepOf t ts .out ≡ stepOf t us .out
   unfolding stepOf
-  outcome-same = stepped-same (stepVerdict t (length ns) (length bs)) ∙ ap (λ (v : Verdict). steppedBy t ks cs v .out) verdict-same
+  outcome-same = stepped-same (stepVerdict t (lengths ts)) ∙ ap (λ (v : Verdict). steppedBy t us v .out) verdict-same
 
 pub reads-only : ReadsOnly
-reads-only t ns bs ks cs agree =
+reads-only t ts us agree =
     record {
-      verdict = verdict-same t ns bs ks cs agree;
-      decision = decided-same t ns bs ks cs agree;
-      out = outcome-same t ns bs ks cs agree;
+      verdict = verdict-same t ts us agree;
+      decision = decided-same t ts us agree;
+      out = outcome-same t ts us agree;
     }

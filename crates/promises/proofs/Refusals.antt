@@ -9,12 +9,12 @@ use native.Mathlib.Decide.{ℕ-discrete}
 use native.Mathlib.Omega.{arith}
 use borrow.Author.Tests.{eqb-true, eqb-false, eq-eqb, ne-eqb}
 use lib.Dec.{ltb, eqb}
-use lib.ListN.{length}
 use Rattle.choice.specs.Choice.{pick}
 use Rattle.choice.specs.Table.{done, row}
 use Rattle.choice.proofs.Exactly.{Tells, fails, Gives, fine, here, later, refused-exactly, gives-row}
 use Rattle.choice.proofs.Telling.{tells-as, tells-eq, tells-lt, tells-le, tells-or, tells-and, tells-not, tells-broken, clears-as, clears-lt, clears-or}
-use Rattle.words.specs.Words.{SPLIT-KEY, word}
+use Rattle.words.specs.declared.Lengths.{Lengths}
+use Rattle.words.specs.Words.{Tables, lengths, SPLIT-KEY, word}
 use Rattle.scans.specs.Scans.{lowest}
 use Rattle.scans.proofs.Laws.{lowest-free, lowest-none}
 use Rattle.names.specs.Names.{IDLE, I1, SZ, TB, B2, B4, F1, F2, F3, F4, L2, B8, I8, I9, I10, D4A, D4B, DUMMY, INSERT, FIND, DELETE, KEY-LIMIT, hasRow}
@@ -35,7 +35,7 @@ use Rattle.moves.specs.Moves.{i1, sz, tb, b2, b4, f1, f2, f3, f4, l2, b8, i8, i
 use Rattle.prepare.specs.declared.Limits.{Limits}
 use Rattle.register.specs.declared.Turn.{Turn}
 use Rattle.names.specs.declared.Verdict.{Verdict}
-use Rattle.register.specs.Step.{wordGiven, bucketAt, wordAt, wordFor, splitFor, seenBy, carried}
+use Rattle.register.specs.Step.{wordGiven, askedAt, wordAt, wordFor, splitFor, seenBy, carried}
 use Rattle.header.specs.Header.{isShort}
 use Rattle.prepare.specs.Prepare.{freshHeader, preparedBy, prepareVerdict, prepared}
 use Rattle.register.specs.Calls.{startedBy, startVerdict, startOf, steppedBy, stepVerdict, stepOf}
@@ -48,9 +48,9 @@ abbrev pub Allowed : Answer → Type 0
 Allowed a = hasRow a ≡ false
 
 -- 11
-too-short : (h : Header) (nodes buckets : ℕ) → Tells (isShort h nodes buckets) (TooShort h nodes buckets)
+too-short : (h : Header) (lengths : Lengths) → Tells (isShort h lengths) (TooShort h lengths)
 unfolding isShort
-too-short h nodes buckets = tells-or (tells-lt _ _) (tells-lt _ _)
+too-short h lengths = tells-or (tells-lt _ _) (tells-lt _ _)
 
 -- 17
 unknown-kind : (kind : ℕ) → Tells (ltb kind INSERT || ltb DELETE kind) (UnknownKind kind)
@@ -71,27 +71,27 @@ unknown-kind kind =
 
 -- what is answered is what the first row that holds says, and it refuses nothing where none holds
 pub prepare-gives :
-    (l : Limits) (h : Header) (ns bs : List ℕ)
-    → Gives Allowed (prepared l h ns bs .out .answer) (prepareClaims l (TooShort (freshHeader l) (length ns) (length bs)))
+    (l : Limits) (h : Header) (ts : Tables)
+    → Gives Allowed (prepared l h ts .out .answer) (prepareClaims l (TooShort (freshHeader l) (lengths ts)))
 unfolding prepared prepareVerdict
-prepare-gives l h ns bs =
+prepare-gives l h ts =
     gives-row answer (limit-broken (freshHeader l)) refl
-    (λ _. gives-row answer (too-short (freshHeader l) (length ns) (length bs)) refl
+    (λ _. gives-row answer (too-short (freshHeader l) (lengths ts)) refl
     (λ _. fine refl))
   where
     answer : Verdict → Answer
-    answer v = preparedBy l h ns bs v .out .answer
+    answer v = preparedBy l h ts v .out .answer
 
 pub prepare-exactly : PrepareExactly
-prepare-exactly l h ns bs a r = refused-exactly a (prepare-gives l h ns bs) (λ f. true≢false (sym r ∙ f))
+prepare-exactly l h ts a r = refused-exactly a (prepare-gives l h ts) (λ f. true≢false (sym r ∙ f))
 
 pub start-gives :
-    (t : Turn) (kind key nodes buckets : ℕ)
-    → Gives Allowed (startOf t kind key nodes buckets .answer) (startClaims t kind key (TooShort (t .header) nodes buckets))
+    (t : Turn) (kind key : ℕ) (lengths : Lengths)
+    → Gives Allowed (startOf t kind key lengths .called .answer) (startClaims t kind key (TooShort (t .header) lengths))
 unfolding startOf startVerdict
-start-gives t kind key nodes buckets =
+start-gives t kind key lengths =
     gives-row answer (header-damaged (t .header)) refl
-    (λ _. gives-row answer (too-short (t .header) nodes buckets) refl
+    (λ _. gives-row answer (too-short (t .header) lengths) refl
     (λ _. gives-row answer (tells-le (t .header .w) (t .number)) refl
     (λ _. gives-row answer (unknown-kind kind) refl
     (λ _. gives-row answer (tells-lt KEY-LIMIT key) refl
@@ -100,10 +100,10 @@ start-gives t kind key nodes buckets =
     (λ _. fine refl)))))))
   where
     answer : Verdict → Answer
-    answer v = startedBy t kind key v .answer
+    answer v = startedBy t kind key v .called .answer
 
 pub start-exactly : StartExactly
-start-exactly t kind key nodes buckets a r = refused-exactly a (start-gives t kind key nodes buckets) (λ f. true≢false (sym r ∙ f))
+start-exactly t kind key lengths a r = refused-exactly a (start-gives t kind key lengths) (λ f. true≢false (sym r ∙ f))
 
 -- ---- a step that passes its table
 -- the claim that stands at the place, and none where the place is not listed
@@ -145,104 +145,104 @@ answerOf Damaged = IsDamaged
 answerOf (Going x e) = GoingOn
 answerOf (Ended a e) = a
 
-carried-answer : (t : Turn) (ns bs : List ℕ) (m : Move) → carried t m ns bs .out .answer ≡ answerOf m
-carried-answer t ns bs Damaged = refl
-carried-answer t ns bs (Going x e) = refl
-carried-answer t ns bs (Ended a e) = refl
+carried-answer : (t : Turn) (ts : Tables) (m : Move) → carried t m ts .out .called .answer ≡ answerOf m
+carried-answer t ts Damaged = refl
+carried-answer t ts (Going x e) = refl
+carried-answer t ts (Ended a e) = refl
 
 allowed : {m : Move} → Fine m → Allowed (answerOf m)
 allowed going = refl
 allowed (ended l) = l
 
 -- 18 and 19 at place p
-abbrev NoKeyAt : Turn → List ℕ → ℕ → Type 0
-NoKeyAt t ns p = (p ≡ I1) × NoKeyFree (t .header) ns
+abbrev NoKeyAt : Turn → Tables → ℕ → Type 0
+NoKeyAt t ts p = (p ≡ I1) × NoKeyFree (t .header) (ts .nodes)
 
-abbrev NoDummyAt : Turn → List ℕ → ℕ → Type 0
-NoDummyAt t ns p = (p ≡ B4) × NoDummyFree (t .header) ns
+abbrev NoDummyAt : Turn → Tables → ℕ → Type 0
+NoDummyAt t ts p = (p ≡ B4) × NoDummyFree (t .header) (ts .nodes)
 
 -- at place p the decision m answers as the last three rows say
-record Told (t : Turn) (ns bs : List ℕ) (p : ℕ) (m : Move) : Type 1 where
+record Told (t : Turn) (ts : Tables) (p : ℕ) (m : Move) : Type 1 where
   given :
       Gives Allowed (answerOf m)
-      (row (AtPlace p (placeClaims t ns bs)) IsDamaged
-      (row (NoKeyAt t ns p) NoKeyNode
-      (row (NoDummyAt t ns p) NoDummy
+      (row (AtPlace p (placeClaims t ts)) IsDamaged
+      (row (NoKeyAt t ts p) NoKeyNode
+      (row (NoDummyAt t ts p) NoDummy
       done)))
 
-module _ (t : Turn) (ns bs : List ℕ) (known : Known (t .worker)) where
+module _ (t : Turn) (ts : Tables) (known : Known (t .worker)) where
   -- what is seen where the place is q
   abbrev seen : ℕ → Seen
-  seen q = record { header = t .header; worker = t .worker; word = wordAt q t ns bs; split = pick (eqb q F3) (word ns (t .worker .cur) SPLIT-KEY) 0 }
+  seen q = record { header = t .header; worker = t .worker; word = wordAt q t ts; split = pick (eqb q F3) (word (ts .nodes) (t .worker .cur) SPLIT-KEY) 0 }
 
   by-place :
-      (p q : ℕ) (decides : Seen → Move) {n : Move} → Told t ns bs q (decides (seen q)) → ((p ≡ q → ⊥) → Told t ns bs p n)
-      → Told t ns bs p (pick (eqb p q) (decides (seen p)) n)
+      (p q : ℕ) (decides : Seen → Move) {n : Move} → Told t ts q (decides (seen q)) → ((p ≡ q → ⊥) → Told t ts p n)
+      → Told t ts p (pick (eqb p q) (decides (seen p)) n)
   unfolding pick
   by-place p q decides {n} now next = by (eqb p q) refl
     where
-      by : (b : Bool) → eqb p q ≡ b → Told t ns bs p (pick b (decides (seen p)) n)
+      by : (b : Bool) → eqb p q ≡ b → Told t ts p (pick b (decides (seen p)) n)
       by true e = rw (eqb-true p q e) now
       by false e = next (eqb-false p q e)
 
   -- a place that takes no node
-  ordinary : (q : ℕ) {m : Move} → eqb q I1 ≡ false → eqb q B4 ≡ false → Plain (claimAt q (placeClaims t ns bs)) m → Told t ns bs q m
-  ordinary q a b (broken c e) = record { given = here (of-claim q (placeClaims t ns bs) c) (sym (ap answerOf e)) }
+  ordinary : (q : ℕ) {m : Move} → eqb q I1 ≡ false → eqb q B4 ≡ false → Plain (claimAt q (placeClaims t ts)) m → Told t ts q m
+  ordinary q a b (broken c e) = record { given = here (of-claim q (placeClaims t ts) c) (sym (ap answerOf e)) }
   ordinary q a b (sound n f) =
       record {
         given =
-            later (λ c. n (claim-of q (placeClaims t ns bs) c))
-            (later (λ (k : NoKeyAt t ns q). eqb-false q I1 a (k .0))
-            (later (λ (k : NoDummyAt t ns q). eqb-false q B4 b (k .0))
+            later (λ c. n (claim-of q (placeClaims t ts) c))
+            (later (λ (k : NoKeyAt t ts q). eqb-false q I1 a (k .0))
+            (later (λ (k : NoDummyAt t ts q). eqb-false q B4 b (k .0))
             (fine (allowed f))));
       }
 
   -- I1: 18 where no key node is free
-  takes-key : Told t ns bs I1 (i1 (seen I1))
+  takes-key : Told t ts I1 (i1 (seen I1))
   unfolding i1 wordAt wordGiven pick
   takes-key =
-      let free = none-free ns (dummiesOf (t .header) + 1) (nodesOf (t .header)) (omega arith) in
-      let none : Tells _ (NoKeyAt t ns I1) = tells-as (λ f. (refl, f)) (λ f. f .1) free in
+      let free = none-free (ts .nodes) (dummiesOf (t .header) + 1) (nodesOf (t .header)) (omega arith) in
+      let none : Tells _ (NoKeyAt t ts I1) = tells-as (λ f. (refl, f)) (λ f. f .1) free in
       record {
         given =
-            later (claim-of I1 (placeClaims t ns bs))
+            later (claim-of I1 (placeClaims t ts))
             (gives-row answerOf none refl
-            (λ _. later (λ (k : NoDummyAt t ns I1). omega arith) (fine refl)));
+            (λ _. later (λ (k : NoDummyAt t ts I1). omega arith) (fine refl)));
       }
 
   -- B4: 12 or 19 where no dummy node is free
   no-dummy :
-      (a b : Bool) (x : Worker) (e : Effect) → Tells a (NoDummyFree (t .header) ns) → Tells b ((t .worker .kind ≡ INSERT) × (t .worker .held ≡ 0))
-      → Told t ns bs B4 (pick a (pick b Damaged (Ended NoDummy Nothing)) (Going x e))
+      (a b : Bool) (x : Worker) (e : Effect) → Tells a (NoDummyFree (t .header) (ts .nodes)) → Tells b ((t .worker .kind ≡ INSERT) × (t .worker .held ≡ 0))
+      → Told t ts B4 (pick a (pick b Damaged (Ended NoDummy Nothing)) (Going x e))
   unfolding pick
   no-dummy true true x e none bare =
       let c = bare .sound refl in
-      record { given = here (of-claim B4 (placeClaims t ns bs) (none .sound refl, c .0, c .1)) refl }
+      record { given = here (of-claim B4 (placeClaims t ts) (none .sound refl, c .0, c .1)) refl }
   no-dummy true false x e none bare =
-      let full : NoDummyAt t ns B4 = (refl, none .sound refl) in
+      let full : NoDummyAt t ts B4 = (refl, none .sound refl) in
       record {
         given =
-            later (λ c. let d = claim-of B4 (placeClaims t ns bs) c in fails bare refl (d .1, d .2))
-            (later (λ (k : NoKeyAt t ns B4). omega arith) (here full refl));
+            later (λ c. let d = claim-of B4 (placeClaims t ts) c in fails bare refl (d .1, d .2))
+            (later (λ (k : NoKeyAt t ts B4). omega arith) (here full refl));
       }
   no-dummy false b x e none bare =
       record {
         given =
-            later (λ c. fails none refl (claim-of B4 (placeClaims t ns bs) c .0))
-            (later (λ (k : NoKeyAt t ns B4). omega arith)
-            (later (λ (k : NoDummyAt t ns B4). fails none refl (k .1))
+            later (λ c. fails none refl (claim-of B4 (placeClaims t ts) c .0))
+            (later (λ (k : NoKeyAt t ts B4). omega arith)
+            (later (λ (k : NoDummyAt t ts B4). fails none refl (k .1))
             (fine refl)));
       }
 
-  takes-dummy : Told t ns bs B4 (b4 (seen B4))
+  takes-dummy : Told t ts B4 (b4 (seen B4))
   unfolding b4 wordAt wordGiven pick
   takes-dummy =
-      no-dummy _ _ _ _ (none-free ns 1 (dummiesOf (t .header)) (omega arith))
+      no-dummy _ _ _ _ (none-free (ts .nodes) 1 (dummiesOf (t .header)) (omega arith))
       (tells-and (tells-eq (t .worker .kind) INSERT) (tells-eq (t .worker .held) 0))
 
   -- the place decides the answer: one row a place
-  told-at : (p : ℕ) → Told t ns bs p (decidedAt p (seen p))
-  unfolding decidedAt wordAt wordGiven bucketAt pick
+  told-at : (p : ℕ) → Told t ts p (decidedAt p (seen p))
+  unfolding decidedAt wordAt wordGiven askedAt pick
   told-at p =
       by-place p I1 i1 takes-key
       (λ n1. by-place p SZ sz (ordinary SZ refl refl (unclaimed (sz-fine _ _ _ _)))
@@ -261,7 +261,7 @@ module _ (t : Turn) (ns bs : List ℕ) (known : Known (t .worker)) where
       (λ _. by-place p D4A d4a (ordinary D4A refl refl (d4a-plain _ _ _ _))
       (λ n15. by-place p D4B d4b (ordinary D4B refl refl (d4b-plain _ _ _ _))
       (λ n16.
-      let unlisted : claimAt p (placeClaims t ns bs) → ⊥ = simp ne-eqb (λ c. c) in
+      let unlisted : claimAt p (placeClaims t ts) → ⊥ = simp ne-eqb (λ c. c) in
       ordinary p (ne-eqb p I1 n1) (ne-eqb p B4 n5) (sound unlisted (d6-fine _ _ _ _))))))))))))))))))
 
 -- an errand that is named
@@ -273,18 +273,18 @@ known-of t whole nk ne = by (ℕ-discrete (t .worker .errand) DUMMY)
     by (no nd) = absurd (whole (inl (inr (inl (⊎-elim nk (⊎-elim nd (⊎-elim ne (λ n. n))))))))
 
 pub step-gives :
-    (t : Turn) (ns bs : List ℕ) → Gives Allowed (stepOf t ns bs .out .answer) (stepClaims t ns bs (TooShort (t .header) (length ns) (length bs)))
+    (t : Turn) (ts : Tables) → Gives Allowed (stepOf t ts .out .called .answer) (stepClaims t ts (TooShort (t .header) (lengths ts)))
 unfolding stepOf stepVerdict decided wordFor splitFor
-step-gives t ns bs =
+step-gives t ts =
     gives-row answer (header-damaged (t .header)) refl
-    (λ _. gives-row answer (too-short (t .header) (length ns) (length bs)) refl
+    (λ _. gives-row answer (too-short (t .header) (lengths ts)) refl
     (λ _. gives-row answer (tells-le (t .header .w) (t .number)) refl
     (λ _. gives-row answer (worker-damaged (t .header) (t .number) (t .worker)) refl
     (λ whole. gives-row answer (tells-eq (placeOf t) IDLE) refl
-    (λ _. rw (← carried-answer t ns bs (decided (seenBy t ns bs))) at (told-at t ns bs (known-of t whole) (placeOf t) .given))))))
+    (λ _. rw (← carried-answer t ts (decided (seenBy t ts))) at (told-at t ts (known-of t whole) (placeOf t) .given))))))
   where
     answer : Verdict → Answer
-    answer v = steppedBy t ns bs v .out .answer
+    answer v = steppedBy t ts v .out .called .answer
 
 pub step-exactly : StepExactly
-step-exactly t ns bs a r = refused-exactly a (step-gives t ns bs) (λ f. true≢false (sym r ∙ f))
+step-exactly t ts a r = refused-exactly a (step-gives t ts) (λ f. true≢false (sym r ∙ f))

@@ -4,13 +4,12 @@ use Prim.Native.Nat.{ℕ}
 use mathlib.Core.Bool.{true, false}
 use mathlib.Core.List.{List, [], _∷_}
 use mathlib.Core.Path.{_≡_, refl}
-use Rattle.words.specs.Words.{TAKEN, put, store, linkTo}
+use Rattle.words.specs.Words.{Tables, tables, TAKEN, put, store, linkTo}
 use Rattle.acts.specs.declared.Effect.{Effect}
 use Rattle.acts.specs.declared.Effect.the-variants.{Nothing, Take, Free, Aim, Place, Mark, Unlink, Store, Count, Size}
 use Rattle.acts.specs.declared.Move.{Move}
 use Rattle.acts.specs.declared.Move.the-variants.{Damaged, Going, Ended}
-use Rattle.writes.specs.Writes.{nodesAfter}
-use Rattle.register.specs.Step.{bucketsAfter}
+use Rattle.writes.specs.Writes.{tablesAfter}
 use Rattle.promises.specs.Access.{splitKey, link, standing, spot, Word, ofNode, ofBucket}
 
 -- what a decision writes
@@ -46,29 +45,26 @@ All P [] = Unit {0}
 All P (s ∷ ss) = P (s .at) × All P ss
 
 -- ---- the tables after one store, and after all
-abbrev pub nodesBy : Stored → List ℕ → List ℕ
-nodesBy s ns = elim (s .at) [ ofNode n p ↦ put ns n (spot p) (s .what) | ofBucket b ↦ ns ]
+abbrev pub storedTo : Stored → Tables → Tables
+storedTo s ts =
+    elim (s .at) [
+      | ofNode n p ↦ tables (put (ts .nodes) n (spot p) (s .what)) (ts .buckets)
+      | ofBucket b ↦ tables (ts .nodes) (store (ts .buckets) b (s .what))
+    ]
 
-abbrev pub bucketsBy : Stored → List ℕ → List ℕ
-bucketsBy s bs = elim (s .at) [ ofNode n p ↦ bs | ofBucket b ↦ store bs b (s .what) ]
-
-abbrev pub nodesAll : List Stored → List ℕ → List ℕ
-nodesAll [] ns = ns
-nodesAll (s ∷ ss) ns = nodesAll ss (nodesBy s ns)
-
-abbrev pub bucketsAll : List Stored → List ℕ → List ℕ
-bucketsAll [] bs = bs
-bucketsAll (s ∷ ss) bs = bucketsAll ss (bucketsBy s bs)
+abbrev pub storedAll : List Stored → Tables → Tables
+storedAll [] ts = ts
+storedAll (s ∷ ss) ts = storedAll ss (storedTo s ts)
 
 -- an effect is its stores
-pub effect-stores : (e : Effect) (ns bs : List ℕ) → (nodesAfter e ns ≡ nodesAll (stores e) ns) × (bucketsAfter e bs ≡ bucketsAll (stores e) bs)
-effect-stores Nothing ns bs = (refl, refl)
-effect-stores (Take n split) ns bs = (refl, refl)
-effect-stores (Free n) ns bs = (refl, refl)
-effect-stores (Aim n next) ns bs = (refl, refl)
-effect-stores (Place n next prev) ns bs = (refl, refl)
-effect-stores (Mark n next) ns bs = (refl, refl)
-effect-stores (Unlink prev next n busy) ns bs = (refl, refl)
-effect-stores (Store b n) ns bs = (refl, refl)
-effect-stores (Count x) ns bs = (refl, refl)
-effect-stores (Size x) ns bs = (refl, refl)
+pub effect-stores : (e : Effect) (ts : Tables) → tablesAfter e ts ≡ storedAll (stores e) ts
+effect-stores Nothing ts = refl
+effect-stores (Take n split) ts = refl
+effect-stores (Free n) ts = refl
+effect-stores (Aim n next) ts = refl
+effect-stores (Place n next prev) ts = refl
+effect-stores (Mark n next) ts = refl
+effect-stores (Unlink prev next n busy) ts = refl
+effect-stores (Store b n) ts = refl
+effect-stores (Count x) ts = refl
+effect-stores (Size x) ts = refl

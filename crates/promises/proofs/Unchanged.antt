@@ -2,9 +2,8 @@
 -- Assumes nothing.
 use Prim.Native.Nat.{ℕ}
 use mathlib.Core.Bool.{true≢false, false≢true}
-use mathlib.Core.List.{List}
 use mathlib.Core.Path.{refl, sym, _∙_}
-use lib.ListN.{length}
+use Rattle.words.specs.Words.{Tables, lengths}
 use Rattle.header.specs.declared.Header.{Header}
 use Rattle.acts.specs.declared.Move.{Move}
 use Rattle.acts.specs.declared.Move.the-variants.{Damaged, Going, Ended}
@@ -22,31 +21,31 @@ use Rattle.promises.proofs.Shape.{Final, effect-at}
 
 -- a decision that refuses is a damaged one
 carried-unchanged :
-    (t : Turn) (ns bs : List ℕ) (m : Move) → Final m → Refusal (carried t m ns bs .out .answer) → Untouched t ns bs (carried t m ns bs)
-carried-unchanged t ns bs Damaged f r = record { nodes = refl; buckets = refl; back = record { header = refl; worker = refl; steps = refl } }
-carried-unchanged t ns bs (Going x e) f r = absurd (false≢true r)
-carried-unchanged t ns bs (Ended a e) f r = absurd (true≢false (sym r ∙ f))
+    (t : Turn) (ts : Tables) (m : Move) → Final m → Refusal (carried t m ts .out .called .answer) → Untouched t ts (carried t m ts)
+carried-unchanged t ts Damaged f r = record { tables = refl; back = record { header = refl; worker = refl; steps = refl } }
+carried-unchanged t ts (Going x e) f r = absurd (false≢true r)
+carried-unchanged t ts (Ended a e) f r = absurd (true≢false (sym r ∙ f))
 
 pub step-unchanged : StepUnchanged
-step-unchanged t ns bs =
-    by-verdict t ns bs (λ a. Refusal (a .out .answer) → Untouched t ns bs a)
-    (λ a r. record { nodes = refl; buckets = refl; back = record { header = refl; worker = refl; steps = refl } })
-    (λ _. carried-unchanged t ns bs (decided (seenBy t ns bs)) (effect-at t (wordFor t ns bs) (splitFor t ns) .final))
+step-unchanged t ts =
+    by-verdict t ts (λ l. Refusal (l .out .called .answer) → Untouched t ts l)
+    (λ a r. record { tables = refl; back = record { header = refl; worker = refl; steps = refl } })
+    (λ _. carried-unchanged t ts (decided (seenBy t ts)) (effect-at t (wordFor t ts) (splitFor t (ts .nodes)) .final))
 
-started-unchanged : (t : Turn) (kind key : ℕ) (v : Verdict) → Refusal (startedBy t kind key v .answer) → HandedBack t (startedBy t kind key v)
+started-unchanged : (t : Turn) (kind key : ℕ) (v : Verdict) → Refusal (startedBy t kind key v .called .answer) → HandedBack t (startedBy t kind key v)
 started-unchanged t kind key (Refused a) r = record { header = refl; worker = refl; steps = refl }
 started-unchanged t kind key Pass r = absurd (false≢true r)
 
 pub start-unchanged : StartUnchanged
 unfolding startOf
-start-unchanged t kind key nodes buckets r = started-unchanged t kind key (startVerdict t kind key nodes buckets) r
+start-unchanged t kind key lengths r = started-unchanged t kind key (startVerdict t kind key lengths) r
 
 prepared-unchanged :
-    (l : Limits) (h : Header) (ns bs : List ℕ) (v : Verdict) → Refusal (preparedBy l h ns bs v .out .answer)
-    → AsBefore h ns bs (preparedBy l h ns bs v)
-prepared-unchanged l h ns bs (Refused a) r = record { nodes = refl; buckets = refl; header = refl }
-prepared-unchanged l h ns bs Pass r = absurd (false≢true r)
+    (l : Limits) (h : Header) (ts : Tables) (v : Verdict) → Refusal (preparedBy l h ts v .out .answer)
+    → AsBefore h ts (preparedBy l h ts v)
+prepared-unchanged l h ts (Refused a) r = record { tables = refl; header = refl; steps = refl }
+prepared-unchanged l h ts Pass r = absurd (false≢true r)
 
 pub prepare-unchanged : PrepareUnchanged
 unfolding prepared
-prepare-unchanged l h ns bs r = prepared-unchanged l h ns bs (prepareVerdict l (length ns) (length bs)) r
+prepare-unchanged l h ts r = prepared-unchanged l h ts (prepareVerdict l (lengths ts)) r

@@ -1,11 +1,10 @@
 -- Which lent words a step reads and writes, place by place, in the words of the scope paper's steps.
 use Prim.Native.Nat.{ℕ, _*_, _≤_, _<_}
-use mathlib.Core.List.{List}
 use mathlib.Core.Logic.{_⊎_}
 use mathlib.Core.Path.{_≡_}
 use lib.ListN.{length}
 use Rattle.tree.specs.Tree.{parentOf}
-use Rattle.words.specs.Words.{SPLIT-KEY, LINK, STANDING, word, bucket}
+use Rattle.words.specs.Words.{Tables, lengths, SPLIT-KEY, LINK, STANDING, word, bucket}
 use Rattle.names.specs.Names.{I1, TB, B2, B4, F1, F2, F3, F4, L2, B8, D4A, D4B}
 use Rattle.names.specs.declared.Answer.{Answer}
 use Rattle.header.specs.declared.Header.{Header}
@@ -35,9 +34,9 @@ pub data Word : Type 0 where
   deriving Discrete as word-discrete
 
 -- what stands in the word
-abbrev pub value : Word → List ℕ → List ℕ → ℕ
-value (ofNode n p) ns bs = word ns n (spot p)
-value (ofBucket b) ns bs = bucket bs b
+abbrev pub value : Word → Tables → ℕ
+value (ofNode n p) ts = word (ts .nodes) n (spot p)
+value (ofBucket b) ts = bucket (ts .buckets) b
 
 -- the word is one of the 3N node words and M bucket words; node 0 means nothing
 abbrev pub Lent : Header → Word → Type 0
@@ -71,18 +70,18 @@ pub data Reads (t : Turn) : Word → Type 0 where
   d4b : placeOf t ≡ D4B → Reads t (ofNode (t .worker .prev) link)
 
 -- two pairs of tables have the same values at these words, and are both long enough for 11 or both too short
-pub record Agree (P : Word → Type 0) (h : Header) (ns bs ks cs : List ℕ) : Type 0 where
-  pub same : (v : Word) → P v → value v ns bs ≡ value v ks cs
-  pub short : isShort h (length ns) (length bs) ≡ isShort h (length ks) (length cs)
+pub record Agree (P : Word → Type 0) (h : Header) (ts us : Tables) : Type 0 where
+  pub same : (v : Word) → P v → value v ts ≡ value v us
+  pub short : isShort h (lengths ts) ≡ isShort h (lengths us)
 
 -- the standings of the nodes 1 to N are the same in both tables
-abbrev pub SameStandings : Header → List ℕ → List ℕ → Type 0
-SameStandings h ns ks = (n : ℕ) → 1 ≤ n → n ≤ nodesOf h → word ns n STANDING ≡ word ks n STANDING
+abbrev pub SameStandings : Header → Tables → Tables → Type 0
+SameStandings h ts us = (n : ℕ) → 1 ≤ n → n ≤ nodesOf h → word (ts .nodes) n STANDING ≡ word (us .nodes) n STANDING
 
 -- both tables are long enough: 3N node words, M bucket words
-pub record Long (h : Header) (ns bs : List ℕ) : Type 0 where
-  pub nodes : nodesOf h * 3 ≤ length ns
-  pub buckets : h .m ≤ length bs
+pub record Long (h : Header) (ts : Tables) : Type 0 where
+  pub nodes : nodesOf h * 3 ≤ length (ts .nodes)
+  pub buckets : h .m ≤ length (ts .buckets)
 
 -- a word of two runs, a and b before, c and d after: both leave it as it was, or both leave the same value
 abbrev pub Alike : (a b c d : ℕ) → Type 0

@@ -4,10 +4,10 @@ use mathlib.Core.Bool.{true, false}
 use mathlib.Core.List.{List, [], _∷_}
 use mathlib.Core.Logic.{_⊎_, _↔_}
 use mathlib.Core.Path.{_≡_}
-use lib.ListN.{length}
 use Rattle.choice.specs.Table.{Claims, done, row, RefusedBy}
 use Rattle.tree.specs.Tree.{parentOf}
-use Rattle.words.specs.Words.{SPLIT-KEY, LINK, STANDING, word, bucket}
+use Rattle.words.specs.declared.Lengths.{Lengths}
+use Rattle.words.specs.Words.{Tables, lengths, SPLIT-KEY, LINK, STANDING, word, bucket}
 use Rattle.names.specs.Names.{IDLE, I1, TB, B2, B4, F1, F2, F3, F4, L2, B8, D4A, D4B, KEY, DUMMY, INSERT, FIND, DELETE, hasRow}
 use Rattle.names.specs.declared.Answer.{Answer}
 use Rattle.names.specs.declared.Answer.the-variants.{Limit, Short, Damaged, NoWorker, KeyAbove as AboveLimit, IsBusy, IsIdle, NoKind, NoKeyNode, NoDummy}
@@ -25,8 +25,8 @@ use Rattle.promises.specs.Access.{placeOf}
 
 -- ---- 11, 13, 17, 15 and 16
 -- "a lent table is too short": fewer than 3N node words or M bucket words
-abbrev pub TooShort : Header → ℕ → ℕ → Type 0
-TooShort h nodes buckets = (nodes < nodesOf h * 3) ⊎ (buckets < h .m)
+abbrev pub TooShort : Header → Lengths → Type 0
+TooShort h lengths = (lengths .nodes < nodesOf h * 3) ⊎ (lengths .buckets < h .m)
 
 -- "worker number is W or more"
 abbrev pub NumberBeyond : Turn → Type 0
@@ -103,12 +103,13 @@ AtPlace p nowhere = ⊥
 AtPlace p (at q claim rest) = ((p ≡ q) × claim) ⊎ ((p ≡ q → ⊥) × AtPlace p rest)
 
 -- what a step can find damaged, place by place, and nothing elsewhere
-abbrev pub placeClaims : Turn → List ℕ → List ℕ → Places
-placeClaims t ns bs =
+abbrev pub placeClaims : Turn → Tables → Places
+placeClaims t ts =
+    let ns = ts .nodes in
     let h = t .header in
     let x = t .worker in
-    at TB (BucketAbove h (bucket bs (x .wanted)))
-    (at B2 (BucketAbove h (bucket bs (parentOf (x .making))))
+    at TB (BucketAbove h (bucket (ts .buckets) (x .wanted)))
+    (at B2 (BucketAbove h (bucket (ts .buckets) (parentOf (x .making))))
     (at B4 (EndDamaged h ns x)
     (at F1 (LinkDamaged h (x .start) (word ns (x .start) LINK))
     (at F2 (LinkDamaged h (x .cur) (word ns (x .cur) LINK))
@@ -121,17 +122,17 @@ placeClaims t ns bs =
     nowhere))))))))))
 
 -- "a bucket word read is above N; a link read is above 2N+1; or a node number that this step must follow, free or write is 0"
-abbrev pub WordsDamaged : Turn → List ℕ → List ℕ → Type 0
-WordsDamaged t ns bs = AtPlace (placeOf t) (placeClaims t ns bs)
+abbrev pub WordsDamaged : Turn → Tables → Type 0
+WordsDamaged t ts = AtPlace (placeOf t) (placeClaims t ts)
 
 -- ---- 18 and 19
 -- "no free key node at I1"
-abbrev pub NoFreeKey : Turn → List ℕ → Type 0
-NoFreeKey t ns = (placeOf t ≡ I1) × NoKeyFree (t .header) ns
+abbrev pub NoFreeKey : Turn → Tables → Type 0
+NoFreeKey t ts = (placeOf t ≡ I1) × NoKeyFree (t .header) (ts .nodes)
 
 -- "no free dummy node at B4"
-abbrev pub NoFreeDummy : Turn → List ℕ → Type 0
-NoFreeDummy t ns = (placeOf t ≡ B4) × NoDummyFree (t .header) ns
+abbrev pub NoFreeDummy : Turn → Tables → Type 0
+NoFreeDummy t ts = (placeOf t ≡ B4) × NoDummyFree (t .header) (ts .nodes)
 
 -- ---- the orders of the checks; what 11 claims is handed in, since the records may be a lent table too
 -- "Preparing checks 10, then 11."
@@ -154,30 +155,30 @@ startClaims t kind key short =
     done))))))
 
 -- a step checks "header range (12), 11, 13", "the record's own faults (12), .. 16, then words read and missing node numbers (12), then 18 or 19"
-abbrev pub stepClaims : Turn → List ℕ → List ℕ → Type 0 → Claims Answer
-stepClaims t ns bs short =
+abbrev pub stepClaims : Turn → Tables → Type 0 → Claims Answer
+stepClaims t ts short =
     row (HeaderDamaged (t .header)) Damaged
     (row short Short
     (row (NumberBeyond t) NoWorker
     (row (WorkerDamaged (t .header) (t .number) (t .worker)) Damaged
     (row (Idle t) IsIdle
-    (row (WordsDamaged t ns bs) Damaged
-    (row (NoFreeKey t ns) NoKeyNode
-    (row (NoFreeDummy t ns) NoDummy
+    (row (WordsDamaged t ts) Damaged
+    (row (NoFreeKey t ts) NoKeyNode
+    (row (NoFreeDummy t ts) NoDummy
     done)))))))
 
 -- ---- each refusal is given exactly when its row holds and no earlier one does
 abbrev pub PrepareExactly : Type 0
 PrepareExactly =
-    (l : Limits) (h : Header) (ns bs : List ℕ) (a : Answer) → hasRow a ≡ true
-    → (prepared l h ns bs .out .answer ≡ a) ↔ RefusedBy (prepareClaims l (TooShort (freshHeader l) (length ns) (length bs))) a
+    (l : Limits) (h : Header) (ts : Tables) (a : Answer) → hasRow a ≡ true
+    → (prepared l h ts .out .answer ≡ a) ↔ RefusedBy (prepareClaims l (TooShort (freshHeader l) (lengths ts))) a
 
 abbrev pub StartExactly : Type 0
 StartExactly =
-    (t : Turn) (kind key nodes buckets : ℕ) (a : Answer) → hasRow a ≡ true
-    → (startOf t kind key nodes buckets .answer ≡ a) ↔ RefusedBy (startClaims t kind key (TooShort (t .header) nodes buckets)) a
+    (t : Turn) (kind key : ℕ) (lengths : Lengths) (a : Answer) → hasRow a ≡ true
+    → (startOf t kind key lengths .called .answer ≡ a) ↔ RefusedBy (startClaims t kind key (TooShort (t .header) lengths)) a
 
 abbrev pub StepExactly : Type 0
 StepExactly =
-    (t : Turn) (ns bs : List ℕ) (a : Answer) → hasRow a ≡ true
-    → (stepOf t ns bs .out .answer ≡ a) ↔ RefusedBy (stepClaims t ns bs (TooShort (t .header) (length ns) (length bs))) a
+    (t : Turn) (ts : Tables) (a : Answer) → hasRow a ≡ true
+    → (stepOf t ts .out .called .answer ≡ a) ↔ RefusedBy (stepClaims t ts (TooShort (t .header) (lengths ts))) a

@@ -1,16 +1,17 @@
 -- "All the others from 10 on change no word and return header and record as they came (preparing is handed a header too)."
 use Prim.Native.Nat.{ℕ}
 use mathlib.Core.Bool.{true}
-use mathlib.Core.List.{List}
 use mathlib.Core.Path.{_≡_}
 use Rattle.names.specs.declared.Answer.{Answer}
 use Rattle.names.specs.Names.{refuses}
 use Rattle.header.specs.declared.Header.{Header}
 use Rattle.prepare.specs.declared.Limits.{Limits}
 use Rattle.register.specs.declared.Turn.{Turn}
-use Rattle.writes.specs.declared.Outcome.{Outcome}
-use Rattle.writes.specs.Carry.{After}
-use Rattle.prepare.specs.Prepare.{Kept, prepared}
+use Rattle.words.specs.declared.Lengths.{Lengths}
+use Rattle.words.specs.Words.{Tables, Left}
+use Rattle.acts.specs.declared.Called.{Called}
+use Rattle.acts.specs.declared.Outcome.{Outcome}
+use Rattle.prepare.specs.Prepare.{prepared}
 use Rattle.register.specs.Calls.{startOf, stepOf}
 
 -- a refusal: 18 and 19 end the operation
@@ -19,31 +20,30 @@ Refusal a = refuses a ≡ true
 
 -- header and record are handed back as they came, and no steps are told
 pub record HandedBack (t : Turn) (o : Outcome) : Type 0 where
-  pub header : o .header ≡ t .header
+  pub header : o .called .header ≡ t .header
   pub worker : o .worker ≡ t .worker
-  pub steps : o .steps ≡ 0
+  pub steps : o .called .steps ≡ 0
 
 -- no word is changed either
-pub record Untouched (t : Turn) (ns bs : List ℕ) (a : After) : Type 0 where
-  pub nodes : a .nodes ≡ ns
-  pub buckets : a .buckets ≡ bs
-  pub back : HandedBack t (a .out)
+pub record Untouched (t : Turn) (ts : Tables) (l : Left Outcome) : Type 0 where
+  pub tables : l .tables ≡ ts
+  pub back : HandedBack t (l .out)
 
 -- preparing leaves the header that it was handed, and no word is changed
-pub record AsBefore (h : Header) (ns bs : List ℕ) (k : Kept) : Type 0 where
-  pub nodes : k .nodes ≡ ns
-  pub buckets : k .buckets ≡ bs
-  pub header : k .out .header ≡ h
+pub record AsBefore (h : Header) (ts : Tables) (l : Left Called) : Type 0 where
+  pub tables : l .tables ≡ ts
+  pub header : l .out .header ≡ h
+  pub steps : l .out .steps ≡ 0
 
 -- a refused step
 abbrev pub StepUnchanged : Type 0
-StepUnchanged = (t : Turn) (ns bs : List ℕ) → Refusal (stepOf t ns bs .out .answer) → Untouched t ns bs (stepOf t ns bs)
+StepUnchanged = (t : Turn) (ts : Tables) → Refusal (stepOf t ts .out .called .answer) → Untouched t ts (stepOf t ts)
 
 -- a refused start, which is lent the tables' lengths alone
 abbrev pub StartUnchanged : Type 0
 StartUnchanged =
-    (t : Turn) (kind key nodes buckets : ℕ) → Refusal (startOf t kind key nodes buckets .answer) → HandedBack t (startOf t kind key nodes buckets)
+    (t : Turn) (kind key : ℕ) (lengths : Lengths) → Refusal (startOf t kind key lengths .called .answer) → HandedBack t (startOf t kind key lengths)
 
 -- a refused preparing
 abbrev pub PrepareUnchanged : Type 0
-PrepareUnchanged = (l : Limits) (h : Header) (ns bs : List ℕ) → Refusal (prepared l h ns bs .out .answer) → AsBefore h ns bs (prepared l h ns bs)
+PrepareUnchanged = (l : Limits) (h : Header) (ts : Tables) → Refusal (prepared l h ts .out .answer) → AsBefore h ts (prepared l h ts)

@@ -5,9 +5,9 @@ use mathlib.Core.Bool.{Bool, true, false, not, _&&_}
 use mathlib.Core.List.{List, [], _∷_}
 use mathlib.Core.Path.{_≡_}
 use lib.Dec.{ltb, eqb}
-use lib.ListN.{length}
 use Rattle.choice.specs.Choice.{pick}
-use Rattle.words.specs.Words.{TAKEN, store}
+use Rattle.words.specs.declared.Lengths.{Lengths}
+use Rattle.words.specs.Words.{Tables, tables, lengths, Left, left, TAKEN, store}
 use Rattle.names.specs.Names.{I1, SZ, TB, B4, D4B, D6, KEY, INSERT, FIND, DELETE, goesOn}
 use Rattle.names.specs.declared.Answer.the-variants.{Going as GoingOn, Yes, Damaged as IsDamaged}
 use Rattle.header.specs.declared.Header.{Header}
@@ -22,21 +22,22 @@ use Rattle.acts.specs.declared.Move.{Move}
 use Rattle.acts.specs.declared.Move.the-variants.{Damaged, Going, Ended}
 use Rattle.moves.specs.Moves.{on, decided}
 use Rattle.register.specs.declared.Turn.{Turn}
-use Rattle.writes.specs.declared.Outcome.{Outcome}
+use Rattle.acts.specs.declared.Outcome.{Outcome}
+use Rattle.acts.specs.Acts.{handedBack}
 use Rattle.names.specs.declared.Verdict.{Verdict}
 use Rattle.names.specs.declared.Verdict.the-variants.{Pass, Refused}
-use Rattle.writes.specs.Carry.{After, after, tick}
+use Rattle.writes.specs.Carry.{tick}
 use Rattle.register.specs.Step.{refusedWith, wordFor, seenBy, carried}
 use Rattle.register.specs.Calls.{startOf, stepVerdict, stepOf}
 use Rattle.promises.specs.Access.{placeOf}
 
 -- a step, as ours is
 abbrev pub Step : Type 0
-Step = Turn → List ℕ → List ℕ → After
+Step = Turn → Tables → Left Outcome
 
 -- what the version leaves at this input is not what a step promises
-abbrev pub Breaks : Step → Turn → List ℕ → List ℕ → Type 0
-Breaks wrong t ns bs = wrong t ns bs ≡ stepOf t ns bs → ⊥
+abbrev pub Breaks : Step → Turn → Tables → Type 0
+Breaks wrong t ts = wrong t ts ≡ stepOf t ts → ⊥
 
 -- ---- the inputs
 abbrev pub header : (size count : ℕ) → Header
@@ -47,15 +48,15 @@ abbrev pub turn : Header → Worker → Turn
 turn h x = record { number = 0; header = h; worker = x }
 
 -- as prepared: node 1 taken, bucket 0 holds it
-abbrev pub emptyNodes : List ℕ
-emptyNodes = 0 ∷ 0 ∷ TAKEN ∷ 0 ∷ 0 ∷ 0 ∷ 0 ∷ 0 ∷ 0 ∷ 0 ∷ 0 ∷ 0 ∷ 0 ∷ 0 ∷ 0 ∷ 0 ∷ 0 ∷ 0 ∷ 0 ∷ 0 ∷ 0 ∷ []
-
 abbrev pub emptyBuckets : List ℕ
 emptyBuckets = 1 ∷ 0 ∷ 0 ∷ 0 ∷ []
 
+abbrev pub empty : Tables
+empty = tables (0 ∷ 0 ∷ TAKEN ∷ 0 ∷ 0 ∷ 0 ∷ 0 ∷ 0 ∷ 0 ∷ 0 ∷ 0 ∷ 0 ∷ 0 ∷ 0 ∷ 0 ∷ 0 ∷ 0 ∷ 0 ∷ 0 ∷ 0 ∷ 0 ∷ []) emptyBuckets
+
 -- key 0 on the chain at node 7, and marked: 1 links to 7, 7 to nothing
-abbrev pub markedNodes : List ℕ
-markedNodes = 0 ∷ 14 ∷ TAKEN ∷ 0 ∷ 0 ∷ 0 ∷ 0 ∷ 0 ∷ 0 ∷ 0 ∷ 0 ∷ 0 ∷ 0 ∷ 0 ∷ 0 ∷ 0 ∷ 0 ∷ 0 ∷ 1 ∷ 1 ∷ TAKEN ∷ []
+abbrev pub marked : Tables
+marked = tables (0 ∷ 14 ∷ TAKEN ∷ 0 ∷ 0 ∷ 0 ∷ 0 ∷ 0 ∷ 0 ∷ 0 ∷ 0 ∷ 0 ∷ 0 ∷ 0 ∷ 0 ∷ 0 ∷ 0 ∷ 0 ∷ 1 ∷ 1 ∷ TAKEN ∷ []) emptyBuckets
 
 -- worker 0 idle, with worker 1 busy
 abbrev pub starting : Turn
@@ -81,62 +82,64 @@ unlinking = turn (header 2 1) (record { place = D4B; errand = KEY; kind = DELETE
 abbrev pub counting : Turn
 counting = turn (header 2 1) (withSteps 7 (to D6 (unlinking .worker)))
 
-abbrev pub unlinkedNodes : List ℕ
-unlinkedNodes = 0 ∷ 0 ∷ TAKEN ∷ 0 ∷ 0 ∷ 0 ∷ 0 ∷ 0 ∷ 0 ∷ 0 ∷ 0 ∷ 0 ∷ 0 ∷ 0 ∷ 0 ∷ 0 ∷ 0 ∷ 0 ∷ 1 ∷ 1 ∷ 3 ∷ []
+abbrev pub unlinked : Tables
+unlinked = tables (0 ∷ 0 ∷ TAKEN ∷ 0 ∷ 0 ∷ 0 ∷ 0 ∷ 0 ∷ 0 ∷ 0 ∷ 0 ∷ 0 ∷ 0 ∷ 0 ∷ 0 ∷ 0 ∷ 0 ∷ 0 ∷ 1 ∷ 1 ∷ 3 ∷ []) emptyBuckets
 
 -- our step refuses none of them
 pub record Accepted : Type 0 where
-  pub insert : stepOf inserting emptyNodes emptyBuckets .out .answer ≡ GoingOn
-  pub make : stepOf making emptyNodes emptyBuckets .out .answer ≡ GoingOn
-  pub want : stepOf wanting emptyNodes emptyBuckets .out .answer ≡ GoingOn
-  pub unlink : stepOf unlinking markedNodes emptyBuckets .out .answer ≡ GoingOn
-  pub last : stepOf counting unlinkedNodes emptyBuckets .out .answer ≡ Yes
+  pub insert : stepOf inserting empty .out .called .answer ≡ GoingOn
+  pub make : stepOf making empty .out .called .answer ≡ GoingOn
+  pub want : stepOf wanting empty .out .called .answer ≡ GoingOn
+  pub unlink : stepOf unlinking marked .out .called .answer ≡ GoingOn
+  pub last : stepOf counting unlinked .out .called .answer ≡ Yes
 
 -- ---- "Try these versions against the promises"
 -- "one that refuses each call"
 unfoldable pub refusesAll : Step
-refusesAll t ns bs = after (refusedWith IsDamaged t) ns bs
+refusesAll t ts = left (refusedWith IsDamaged t) ts
 
-unfoldable pub refusesStarts : Turn → ℕ → ℕ → ℕ → ℕ → Outcome
-refusesStarts t kind key nodes buckets = refusedWith IsDamaged t
+unfoldable pub refusesStarts : Turn → ℕ → ℕ → Lengths → Outcome
+refusesStarts t kind key lengths = refusedWith IsDamaged t
 
 -- "one that says yes to all"
 unfoldable pub saysYes : Step
-saysYes t ns bs = after (record { answer = Yes; steps = t .worker .steps; header = t .header; worker = idle }) ns bs
+saysYes t ts = left (record { called = record { answer = Yes; steps = t .worker .steps; header = t .header }; worker = idle }) ts
 
 -- "one that does nothing"
 unfoldable pub doesNothing : Step
-doesNothing t ns bs = after (record { answer = GoingOn; steps = 0; header = t .header; worker = t .worker }) ns bs
+doesNothing t ts = left (handedBack GoingOn (t .header) (t .worker)) ts
 
 -- our steps, up to the first answer that is not going on, and at most `most` of them
-unfoldable pub toTheEnd : ℕ → Turn → List ℕ → List ℕ → After
-toTheEnd zero t ns bs = stepOf t ns bs
-toTheEnd (suc most) t ns bs =
-    let a = stepOf t ns bs in
-    elim (goesOn (a .out .answer)) [ true ↦ toTheEnd most (record { number = t .number; header = a .out .header; worker = a .out .worker }) (a .nodes) (a .buckets) | false ↦ a ]
+unfoldable pub toTheEnd : ℕ → Turn → Tables → Left Outcome
+toTheEnd zero t ts = stepOf t ts
+toTheEnd (suc most) t ts =
+    let a = stepOf t ts in
+    elim (goesOn (a .out .called .answer)) [ true ↦ toTheEnd most (record { number = t .number; header = a .out .called .header; worker = a .out .worker }) (a .tables) | false ↦ a ]
 
 -- "one that does the whole operation at its first step and idles through the others"
 unfoldable pub allAtOnce : Step
-allAtOnce t ns bs =
-    let whole = toTheEnd 20 t ns bs in
-    let idling : Outcome = record { answer = GoingOn; steps = 0; header = t .header; worker = withSteps (tick (t .worker .steps)) (t .worker) } in
-    pick (eqb (t .worker .steps) 0) (after (stepOf t ns bs .out) (whole .nodes) (whole .buckets)) (after idling ns bs)
+allAtOnce t ts =
+    let whole = toTheEnd 20 t ts in
+    let idling = handedBack GoingOn (t .header) (withSteps (tick (t .worker .steps)) (t .worker)) in
+    pick (eqb (t .worker .steps) 0) (left (stepOf t ts .out) (whole .tables)) (left idling ts)
 
 -- "one that invents its count": D6 leaves it
 unfoldable pub inventsCount : Step
-inventsCount t ns bs =
-    let a = stepOf t ns bs in
+inventsCount t ts =
+    let a = stepOf t ts in
     let o = a .out in
-    let left : Outcome = record { answer = o .answer; steps = o .steps; header = counted (t .header .count) (o .header); worker = o .worker } in
-    after (pick (eqb (placeOf t) D6) left o) (a .nodes) (a .buckets)
+    let c = o .called in
+    let invented : Outcome = record { called = record { answer = c .answer; steps = c .steps; header = counted (t .header .count) (c .header) }; worker = o .worker } in
+    left (pick (eqb (placeOf t) D6) invented o) (a .tables)
 
 -- "or steps": an answer other than going on gives one more
 unfoldable pub inventsSteps : Step
-inventsSteps t ns bs =
-    let a = stepOf t ns bs in
+inventsSteps t ts =
+    let a = stepOf t ts in
     let o = a .out in
-    let more : Outcome = record { answer = o .answer; steps = o .steps + 1; header = o .header; worker = o .worker } in
-    after (pick (goesOn (o .answer)) o more) (a .nodes) (a .buckets)
+    let c = o .called in
+    let more : Outcome = record { called = record { answer = c .answer; steps = c .steps + 1; header = c .header }; worker = o .worker } in
+    left (pick (goesOn (o .called .answer)) o more) (a .tables)
 
 -- ---- "Errors that look reasonable"
 -- 1. "Reading the count as unsigned": the load test without its test of the sign
@@ -144,9 +147,9 @@ unfoldable pub unsignedCount : Header → ℕ → ℕ → Bool
 unsignedCount h size old = ltb (h .l) (old / size) && ltb size (h .m)
 
 -- our step with another way to decide
-abbrev pub decidingBy : (Seen → Move) → Turn → List ℕ → List ℕ → Verdict → After
-decidingBy f t ns bs (Refused a) = after (refusedWith a t) ns bs
-decidingBy f t ns bs Pass = carried t (f (seenBy t ns bs)) ns bs
+abbrev pub decidingBy : (Seen → Move) → Turn → Tables → Verdict → Left Outcome
+decidingBy f t ts (Refused a) = left (refusedWith a t) ts
+decidingBy f t ts Pass = carried t (f (seenBy t ts)) ts
 
 -- 2. "Freeing an unlinked node at once": its standing becomes 0 and not the busy set
 abbrev pub freeing : Effect → Effect
@@ -167,13 +170,14 @@ freed (Going x e) = Going x (freeing e)
 freed (Ended a e) = Ended a (freeing e)
 
 unfoldable pub freesAtOnce : Step
-freesAtOnce t ns bs = decidingBy (λ s. freed (decided s)) t ns bs (stepVerdict t (length ns) (length bs))
+freesAtOnce t ts = decidingBy (λ s. freed (decided s)) t ts (stepVerdict t (lengths ts))
 
 -- 3. "Making a bucket's entry before its dummy is on the chain": B4 stores the node that it takes
 unfoldable pub storesEarly : Step
-storesEarly t ns bs =
-    let a = stepOf t ns bs in
-    after (a .out) (a .nodes) (pick (eqb (placeOf t) B4) (store (a .buckets) (t .worker .making) (wordFor t ns bs)) (a .buckets))
+storesEarly t ts =
+    let a = stepOf t ts in
+    let bs = a .tables .buckets in
+    left (a .out) (tables (a .tables .nodes) (pick (eqb (placeOf t) B4) (store bs (t .worker .making) (wordFor t ts)) bs))
 
 -- 4. "Refusing or restarting when size changed after SZ": TB goes back where the key has another bucket by now
 unfoldable pub restarting : Seen → Move
@@ -182,28 +186,28 @@ restarting s =
     pick (eqb (x .place) TB && not (eqb (x .key % s .header .size) (x .wanted))) (on (to SZ x)) (decided s)
 
 unfoldable pub restartsOnSize : Step
-restartsOnSize t ns bs = decidingBy restarting t ns bs (stepVerdict t (length ns) (length bs))
+restartsOnSize t ts = decidingBy restarting t ts (stepVerdict t (lengths ts))
 
 -- ---- each version is caught at one input
 pub record Caught : Type 0 where
   -- demand 1: the answer is 12 and should be 0, of a step and of a start
-  pub refuses : Breaks refusesAll inserting emptyNodes emptyBuckets
-  pub refuses-start : refusesStarts starting INSERT 0 21 4 ≡ startOf starting INSERT 0 21 4 → ⊥
+  pub refuses : Breaks refusesAll inserting empty
+  pub refuses-start : refusesStarts starting INSERT 0 (lengths empty) ≡ startOf starting INSERT 0 (lengths empty) → ⊥
   -- demand 2: the answer is 1 and should be 0
-  pub yes-to-all : Breaks saysYes inserting emptyNodes emptyBuckets
+  pub yes-to-all : Breaks saysYes inserting empty
   -- demand 2, by the words after each step: node 7 is free and should be taken
-  pub nothing : Breaks doesNothing inserting emptyNodes emptyBuckets
+  pub nothing : Breaks doesNothing inserting empty
   -- demand 2, by the words after each step: node 1 links to node 7 at I1 and should link to nothing
-  pub at-once : Breaks allAtOnce inserting emptyNodes emptyBuckets
+  pub at-once : Breaks allAtOnce inserting empty
   -- demand 2: the count is 1 and should be 0
-  pub count : Breaks inventsCount counting unlinkedNodes emptyBuckets
+  pub count : Breaks inventsCount counting unlinked
   -- demand 3: 9 steps are told and should be 8
-  pub steps : Breaks inventsSteps counting unlinkedNodes emptyBuckets
+  pub steps : Breaks inventsSteps counting unlinked
   -- 1. "old 4,294,967,295 then doubles a nearly empty table"
   pub unsigned : unsignedCount (header 2 0) 2 4294967295 ≡ doubles (header 2 0) 2 4294967295 → ⊥
   -- 2. "under a slower worker": node 7 is free and should wait for workers 0 and 1
-  pub frees : Breaks freesAtOnce unlinking markedNodes emptyBuckets
+  pub frees : Breaks freesAtOnce unlinking marked
   -- 3. bucket 1 holds node 2 at B4 and should be uninitialised
-  pub stores : Breaks storesEarly making emptyNodes emptyBuckets
+  pub stores : Breaks storesEarly making empty
   -- 4. "The older bucket still precedes the key": the worker is at SZ and should be at F1
-  pub restarts : Breaks restartsOnSize wanting emptyNodes emptyBuckets
+  pub restarts : Breaks restartsOnSize wanting empty
