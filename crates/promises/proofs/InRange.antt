@@ -11,8 +11,8 @@ use lib.Dec.{ltb}
 use lib.ListN.{length}
 use Rattle.choice.specs.Choice.{pick}
 use Rattle.choice.proofs.Cases.{both, by-bool}
-use Rattle.scans.specs.Scans.{lowest}
-use Rattle.scans.proofs.Laws.{lowest-free}
+use Rattle.scans.specs.Scans.{freeNode}
+use Rattle.scans.proofs.Laws.{free-node}
 use Rattle.names.specs.Names.{I1, B4}
 use Rattle.names.specs.declared.Answer.{Answer}
 use Rattle.header.specs.declared.Header.{Header}
@@ -100,20 +100,20 @@ module _ (h : Header) (x : Worker) (r : InRange h x) where
   held-dummy = both (λ (n : ℕ). n ≤ nodesOf h) _ (r .dummy) (omega arith)
 
 -- a free node is found among those looked through
-lowest-le : (ns : List ℕ) (from to : ℕ) → lowest ns from to ≤ to
-lowest-le ns from to = by-zero (ℕ-discrete (lowest ns from to) 0)
+free-le : (ns : List ℕ) (lo hi : ℕ) → 1 ≤ lo → freeNode ns lo hi ≤ hi
+free-le ns lo hi one = by-zero (ℕ-discrete (freeNode ns lo hi) 0)
   where
-    by-zero : Dec (lowest ns from to ≡ 0) → lowest ns from to ≤ to
+    by-zero : Dec (freeNode ns lo hi ≡ 0) → freeNode ns lo hi ≤ hi
     by-zero (yes e) = omega arith
-    by-zero (no ne) = lowest-free ns from to (lowest ns from to) refl ne .1
+    by-zero (no ne) = free-node ns lo hi (freeNode ns lo hi) refl ne one .1
 
 pub found-key : (t : Turn) (ns bs : List ℕ) → placeOf t ≡ I1 → wordFor t ns bs ≤ nodesOf (t .header)
 unfolding wordFor wordAt wordGiven pick
-found-key t ns bs p = rw p (lowest-le ns _ _)
+found-key t ns bs p = rw p (free-le ns _ _ (omega arith))
 
 pub found-dummy : (t : Turn) (ns bs : List ℕ) → placeOf t ≡ B4 → wordFor t ns bs ≤ nodesOf (t .header)
 unfolding wordFor wordAt wordGiven pick
-found-dummy t ns bs p = rw p (omega (arith, lowest-le ns 1 (dummiesOf (t .header))))
+found-dummy t ns bs p = rw p (omega (arith, free-le ns 1 (dummiesOf (t .header)) (omega arith)))
 
 -- a step is refused by its verdict, or its record is in range and its decision is carried out
 pub by-verdict :

@@ -18,8 +18,8 @@ use Rattle.split.proofs.Laws.{dummy-first}
 use Rattle.tree.proofs.Laws.{parent-le, on-path-self, on-path-up, on-path-le, next-down-parent}
 use Rattle.promises.proofs.Order.{parent-first}
 use Rattle.words.specs.Words.{STANDING, SPLIT-KEY, TAKEN, put}
-use Rattle.scans.specs.Scans.{lowest}
-use Rattle.scans.proofs.Laws.{lowest-free}
+use Rattle.scans.specs.Scans.{freeNode}
+use Rattle.scans.proofs.Laws.{free-node}
 use Rattle.names.specs.Names.{TB, B2, B4, F1, KEY, DUMMY}
 use Rattle.header.specs.declared.Header.{Header}
 use Rattle.header.specs.Header.{dummiesOf, nodesOf}
@@ -119,12 +119,12 @@ module _ {h : Header} {ws : List Worker} {Ps Qs : Pasts} {w : ℕ} {c m : List �
       first = parent-first (x .making) (omega (arith, b .1 .some)) (omega (arith, word-small (x .making) (s .sane .5)))
 
   -- B4: some dummy node is free, and it is taken
-  pub b4-good : Stands z F.b4 → F.At h w c m (Ps w) F.b4 x → G (b4 (seen h x (lowest m 1 D) 0))
+  pub b4-good : Stands z F.b4 → F.At h w c m (Ps w) F.b4 x → G (b4 (seen h x (freeNode m 1 D) 0))
   unfolding b4 pick
   b4-good s b = by-eq G n 0 (λ e. absurd (some-free (core z) (z .lt) (s .dum) e)) takes
     where
       n : ℕ
-      n = lowest m 1 D
+      n = freeNode m 1 D
 
       takes : n ≢ 0 → G (Going (to F1 (withErrand DUMMY (withDummy n x))) (Take n (dummy (x .making))))
       takes ne = record {
@@ -149,7 +149,7 @@ module _ {h : Header} {ws : List Worker} {Ps Qs : Pasts} {w : ℕ} {c m : List �
       }
         where
           f : (1 ≤ n) × (n ≤ D) × (standing m n ≡ 0)
-          f = lowest-free m 1 D n refl ne
+          f = free-node m 1 D n refl ne (omega arith)
 
           fits : n ≤ N
           fits = omega (arith, f .1)

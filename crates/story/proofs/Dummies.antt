@@ -8,8 +8,8 @@ use native.Mathlib.Omega.{arith}
 use native.Mathlib.Decide.{ℕ-discrete}
 use Rattle.split.specs.Split.{dummy}
 use Rattle.words.specs.Words.{TAKEN}
-use Rattle.scans.specs.Scans.{lowest}
-use Rattle.scans.proofs.Laws.{lowest-none}
+use Rattle.scans.specs.Scans.{freeNode}
+use Rattle.scans.proofs.Laws.{free-none}
 use Rattle.header.specs.declared.Header.{Header}
 use Rattle.header.specs.Header.{dummiesOf}
 use Rattle.record.specs.declared.Worker.{Worker}
@@ -50,14 +50,14 @@ module _ {h : Header} {ws : List Worker} {Ps : Pasts} {w k d : ℕ} {c m : List 
   slots = record { low = low; high = high; one = one; nobody = not-mine }
 
   -- a dummy node that is not free has its slot
-  slot : d ≡ 0 → lowest m 1 (dummiesOf h) ≡ 0 → (n : ℕ) → 1 ≤ n → n ≤ dummiesOf h → (s : ℕ) × Slot n s
+  slot : d ≡ 0 → freeNode m 1 (dummiesOf h) ≡ 0 → (n : ℕ) → 1 ≤ n → n ≤ dummiesOf h → (s : ℕ) × Slot n s
   slot none full n lo hi = ⊎-elim waiting taken (core .glob .kinds n (omega arith))
     where
       waiting : standing m n < 65536 → (s : ℕ) × Slot n s
       waiting small = by (ℕ-discrete (standing m n) 0)
         where
           by : Dec (standing m n ≡ 0) → (s : ℕ) × Slot n s
-          by (yes e) = absurd (lowest-none m 1 (dummiesOf h) full n lo lo hi e)
+          by (yes e) = absurd (free-none m 1 (dummiesOf h) full (omega arith) n lo hi e)
           by (no ne) = absurd (omega (arith, core .keyed n (omega arith) (omega (arith, ne)) small))
 
       held : Holder (h .w) ws w n → (s : ℕ) × Slot n s
@@ -72,5 +72,5 @@ module _ {h : Header} {ws : List Worker} {Ps : Pasts} {w k d : ℕ} {c m : List 
       taken t = ⊎-elim (λ i. let o = core .exact n i hi in (_, bucket (o .bucket) (o .real) i (o .has))) (⊎-elim mine held) (core .whole n (omega arith) t)
 
   -- as many nodes as slots, and one slot stands empty
-  pub some-free : w < h .w → d ≡ 0 → lowest m 1 (dummiesOf h) ≢ 0
+  pub some-free : w < h .w → d ≡ 0 → freeNode m 1 (dummiesOf h) ≢ 0
   some-free lt none full = omega (arith, fewer slots (dummiesOf h) (slot none full) (omega arith) (omega arith))

@@ -16,8 +16,8 @@ use Rattle.choice.proofs.Cases.{by-bool, by-eq}
 use Rattle.split.specs.Split.{regular, dummy}
 use Rattle.words.specs.Words.{LINK, put, linkTo, isTo}
 use Rattle.words.proofs.Laws.{isTo-true}
-use Rattle.scans.specs.Scans.{lowest}
-use Rattle.scans.proofs.Laws.{lowest-free}
+use Rattle.scans.specs.Scans.{freeNode}
+use Rattle.scans.proofs.Laws.{free-node}
 use Rattle.names.specs.Names.{SZ, F1, B8, I8, I9, D4B, D6, KEY, DUMMY, EXTRA, INSERT, FIND}
 use Rattle.names.specs.declared.Answer.the-variants.{Yes, NoKeyNode}
 use Rattle.header.specs.declared.Header.{Header}
@@ -113,14 +113,14 @@ module _ {h : Header} {ws : List Worker} {Ps Qs : Pasts} {w : ℕ} {c m : List �
   }
 
   -- I1: the key node that is free is taken
-  pub i1-good : Stands z F.i1 → F.At h w c m (Ps w) F.i1 x → Good z false (i1 (seen h x (lowest m (D + 1) N) 0))
+  pub i1-good : Stands z F.i1 → F.At h w c m (Ps w) F.i1 x → Good z false (i1 (seen h x (freeNode m (D + 1) N) 0))
   unfolding i1
   i1-good s b = by-eq (Good z false) n 0
       (λ _. over z false NoKeyNode c m (core z) unmoved (told-neither (λ a. let f : _≡_ {A = ℕ} 0 1 = cc in omega arith) (λ a. let f : _≡_ {A = ℕ} 0 1 = cc in omega arith) (omega arith)))
       takes
     where
       n : ℕ
-      n = lowest m (D + 1) N
+      n = freeNode m (D + 1) N
 
       takes : n ≢ 0 → Good z false (Going (to SZ (withHeld n x)) (Take n (regular (x .key))))
       takes ne = record {
@@ -145,7 +145,7 @@ module _ {h : Header} {ws : List Worker} {Ps Qs : Pasts} {w : ℕ} {c m : List �
       }
         where
           f : (D + 1 ≤ n) × (n ≤ N) × (standing m n ≡ 0)
-          f = lowest-free m (D + 1) N n refl ne
+          f = free-node m (D + 1) N n refl ne (omega arith)
 
           some : 1 ≤ n
           some = omega (arith, f .0)

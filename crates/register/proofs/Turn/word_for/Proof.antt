@@ -12,17 +12,17 @@ use Rattle.register.proofs.Turn.word_for.Tie as tie
 add-dummies : tie.Need-add-dummies
 add-dummies c = search needs
 
-add-lowest : tie.Need-add-lowest
-add-lowest c = search needs
+add-free-node : tie.Need-add-free-node
+add-free-node c = search needs
 
-add-lowest-2 : tie.Need-add-lowest-2
-add-lowest-2 c = search needs
+add-free-node-2 : tie.Need-add-free-node-2
+add-free-node-2 c = search needs
 
-lowest-requires : tie.Need-lowest-requires
-lowest-requires c κs = tt
+free-node-requires : tie.Need-free-node-requires
+free-node-requires c κs = tt
 
-lowest-requires-2 : tie.Need-lowest-requires-2
-lowest-requires-2 c κs = tt
+free-node-requires-2 : tie.Need-free-node-requires-2
+free-node-requires-2 c κs = tt
 
 word-requires : tie.Need-word-requires
 word-requires c κs = tt
@@ -47,7 +47,7 @@ word-requires-7 c κs = tt
 
 returns : tie.Need-returns
 unfolding wordGiven pick
-returns c = c .lowest .ensures ∙ (here _ _ _ 1 (c .before .before .match .keys1))
+returns c = c .free-node .ensures ∙ (here _ _ _ 1 (c .before .before .match .keys1))
 
 returns-2 : tie.Need-returns-2
 unfolding wordGiven pick
@@ -59,7 +59,7 @@ returns-3 c = here _ _ _ 4 (c .match .keys3)
 
 returns-4 : tie.Need-returns-4
 unfolding wordGiven pick
-returns-4 c = c .lowest2 .ensures ∙ (here _ _ _ 5 (c .before .match .keys4))
+returns-4 c = c .free-node2 .ensures ∙ (here _ _ _ 5 (c .before .match .keys4))
 
 returns-5 : tie.Need-returns-5
 unfolding wordGiven pick
@@ -112,10 +112,10 @@ word-for-spec =
     tie.close
     (tie.spec
     add-dummies
-    add-lowest
-    add-lowest-2
-    lowest-requires
-    lowest-requires-2
+    add-free-node
+    add-free-node-2
+    free-node-requires
+    free-node-requires-2
     word-requires
     word-requires-2
     word-requires-3
