@@ -2,14 +2,14 @@
 -- Assumes nothing.
 use mathlib.Core.Path.{_≡_, refl, sym, subst, _∙_}
 use mathlib.Core.Logic.{_≢_, _⊎_, inl, inr}
-use mathlib.Core.Bool.{Bool, true, false, true≢false, not, _&&_, _||_}
+use mathlib.Core.Bool.{Bool, true, false, not, _&&_, _||_}
 use mathlib.Core.List.{List, List·Memᴰ as In}
-use Prim.Native.Nat.{ℕ, suc, _+_, _*_, _/_, _%_, _^_, _≤_, _<_}
+use Prim.Native.Nat.{ℕ, suc, _+_, _*_, _%_, _^_, _≤_, _<_}
 use native.Mathlib.Omega.{arith}
 use native.Mathlib.Nat.{pow-suc, mod-eq-of-lt}
-use lib.Dec.{eqb, ltb, leb}
+use lib.Dec.{eqb, leb}
 use lib.Pow.{pow-mono}
-use borrow.Author.Tests.{eq-eqb, ne-eqb, le-ltb, ltb-true, leb-true, leb-false}
+use borrow.Author.Tests.{eq-eqb, ne-eqb, le-ltb, leb-true, leb-false}
 use Rattle.choice.specs.Choice.{pick}
 use Rattle.choice.proofs.Auto.{pick-true, pick-false}
 use Rattle.choice.proofs.Cases.{by-bool, by-eq}
@@ -21,8 +21,9 @@ use Rattle.scans.proofs.Laws.{free-node}
 use Rattle.names.specs.Names.{SZ, F1, B8, I8, I9, D4B, D6, KEY, DUMMY, EXTRA, INSERT, FIND}
 use Rattle.names.specs.declared.Answer.the-variants.{Yes, NoKeyNode}
 use Rattle.header.specs.declared.Header.{Header}
-use Rattle.header.specs.Header.{dummiesOf, nodesOf, doubles}
+use Rattle.header.specs.Header.{dummiesOf, nodesOf}
 use Rattle.header.specs.Rows.{PowerFromTo}
+use Rattle.header.proofs.Laws.{doubles-below}
 use Rattle.record.specs.declared.Worker.{Worker}
 use Rattle.record.specs.Fields.{to, withErrand, withSize, withHeld}
 use Rattle.record.specs.Worker.{heldKey, heldDummy}
@@ -69,15 +70,6 @@ doubled most s small pm ps lt = rw cut (omega (arith, ps .0), fits, (suc (ps .2 
 
     fits : s + s ≤ most
     fits = omega (arith, pow-mono {i = suc i} {j = j} below, power, pm .2 .2)
-
-last : (p q : Bool) → p && q ≡ true → q ≡ true
-last true q e = e
-last false q e = absurd (true≢false (sym e))
-
--- a size that is doubled is below M
-below : (h : Header) (size old : ℕ) → doubles h size old ≡ true → size < h .m
-unfolding doubles
-below h size old e = ltb-true size (h .m) (last (ltb old 2147483648 && ltb (h .l) (old / size)) (ltb size (h .m)) e)
 
 -- the node that L2 places
 dummy-for : (x : Worker) → x .errand ≡ DUMMY → heldFor x ≡ x .dummy
@@ -157,7 +149,7 @@ module _ {h : Header} {ws : List Worker} {Ps Qs : Pasts} {w : ℕ} {c m : List �
   -- I9: the count, and by the load test the size
   pub i9-good : Stands z F.i9 → F.At h w c m (Ps w) F.i9 x → Good z true (i9 (seen h x 0 0))
   unfolding i9
-  i9-good s b = by-bool (Good z true) (doubles h (x .size) (h .count))
+  i9-good s b = by-bool (Good z true) _
       (λ t. record {
         chain = c;
         next = record {
@@ -171,7 +163,7 @@ module _ {h : Header} {ws : List Worker} {Ps Qs : Pasts} {w : ℕ} {c m : List �
           dum-same = sym (s .dum);
           key-has = s .key-has;
           dum-has = s .dum-has;
-          at = (b .0, b .1, below h (x .size) (h .count) t);
+          at = (b .0, b .1, doubles-below h (x .size) _ t);
         };
         change = unmoved;
         kind = refl;
