@@ -28,7 +28,7 @@ use Rattle.writes.specs.declared.Outcome.{Outcome}
 use Rattle.names.specs.declared.Verdict.{Verdict}
 use Rattle.names.specs.declared.Verdict.the-variants.{Refused, Pass}
 use Rattle.acts.specs.declared.Effect.{Effect}
-use Rattle.acts.specs.declared.Effect.the-variants.{Nothing, Take, Free, Aim, Place, Mark, Unlink, Store, Count, Size}
+use Rattle.acts.specs.declared.Effect.the-variants.{Nothing, TakeKey, TakeDummy, Free, Aim, Place, Mark, Unlink, Store, Count, Size}
 use Rattle.acts.specs.declared.Move.{Move}
 use Rattle.acts.specs.declared.Move.the-variants.{Damaged as Hurt, Going, Ended}
 use Rattle.moves.specs.Moves.{decided}
@@ -100,7 +100,8 @@ module _ (h : Header) (ws : List Worker) (w : ℕ) (ns bs : List ℕ) where
 -- a write leaves the limits and the busy set as they are
 pub sized : (e : Effect) (h : Header) → (headerAfter e h .m ≡ h .m) × (headerAfter e h .k ≡ h .k) × (headerAfter e h .w ≡ h .w) × (headerAfter e h .busy ≡ h .busy)
 sized Nothing h = (refl, refl, refl, refl)
-sized (Take n split) h = (refl, refl, refl, refl)
+sized (TakeKey n split) h = (refl, refl, refl, refl)
+sized (TakeDummy n split) h = (refl, refl, refl, refl)
 sized (Free n) h = (refl, refl, refl, refl)
 sized (Aim n next) h = (refl, refl, refl, refl)
 sized (Place n next prev) h = (refl, refl, refl, refl)

@@ -6,7 +6,7 @@ use mathlib.Core.List.{List, [], _∷_}
 use mathlib.Core.Path.{_≡_, refl}
 use Rattle.words.specs.Words.{TAKEN, put, store, linkTo}
 use Rattle.acts.specs.declared.Effect.{Effect}
-use Rattle.acts.specs.declared.Effect.the-variants.{Nothing, Take, Free, Aim, Place, Mark, Unlink, Store, Count, Size}
+use Rattle.acts.specs.declared.Effect.the-variants.{Nothing, TakeKey, TakeDummy, Free, Aim, Place, Mark, Unlink, Store, Count, Size}
 use Rattle.acts.specs.declared.Move.{Move}
 use Rattle.acts.specs.declared.Move.the-variants.{Damaged, Going, Ended}
 use Rattle.writes.specs.Writes.{nodesAfter}
@@ -27,10 +27,15 @@ pub record Stored : Type 0 where
 abbrev pub stored : Word → ℕ → Stored
 stored v x = record { at = v; what = x }
 
+-- a node is taken: its split key, and its standing
+abbrev pub takes : ℕ → ℕ → List Stored
+takes n split = stored (ofNode n splitKey) split ∷ stored (ofNode n standing) TAKEN ∷ []
+
 -- the stores of an effect, in their order
 abbrev pub stores : Effect → List Stored
 stores Nothing = []
-stores (Take n split) = stored (ofNode n splitKey) split ∷ stored (ofNode n standing) TAKEN ∷ []
+stores (TakeKey n split) = takes n split
+stores (TakeDummy n split) = takes n split
 stores (Free n) = stored (ofNode n standing) 0 ∷ []
 stores (Aim n next) = stored (ofNode n link) (linkTo next false) ∷ []
 stores (Place n next prev) = stored (ofNode n link) (linkTo next false) ∷ stored (ofNode prev link) (linkTo n false) ∷ []
@@ -63,7 +68,8 @@ bucketsAll (s ∷ ss) bs = bucketsAll ss (bucketsBy s bs)
 -- an effect is its stores
 pub effect-stores : (e : Effect) (ns bs : List ℕ) → (nodesAfter e ns ≡ nodesAll (stores e) ns) × (bucketsAfter e bs ≡ bucketsAll (stores e) bs)
 effect-stores Nothing ns bs = (refl, refl)
-effect-stores (Take n split) ns bs = (refl, refl)
+effect-stores (TakeKey n split) ns bs = (refl, refl)
+effect-stores (TakeDummy n split) ns bs = (refl, refl)
 effect-stores (Free n) ns bs = (refl, refl)
 effect-stores (Aim n next) ns bs = (refl, refl)
 effect-stores (Place n next prev) ns bs = (refl, refl)

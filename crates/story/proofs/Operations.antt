@@ -27,7 +27,7 @@ use Rattle.header.proofs.Laws.{doubles-below}
 use Rattle.record.specs.declared.Worker.{Worker}
 use Rattle.record.specs.Fields.{to, withErrand, withSize, withHeld}
 use Rattle.record.specs.Worker.{heldKey, heldDummy}
-use Rattle.acts.specs.declared.Effect.the-variants.{Take, Aim, Place, Mark, Unlink}
+use Rattle.acts.specs.declared.Effect.the-variants.{TakeKey, Aim, Place, Mark, Unlink}
 use Rattle.acts.specs.declared.Move.the-variants.{Going}
 use Rattle.moves.specs.Moves.{badLink, heldFor, placed, l2, i1, i8, i9, i10, d4a, d4b, d6, countUp, countDown}
 use Rattle.register.specs.Chain.{key, link, standing}
@@ -114,7 +114,7 @@ module _ {h : Header} {ws : List Worker} {Ps Qs : Pasts} {w : ℕ} {c m : List �
       n : ℕ
       n = freeNode m (D + 1) N
 
-      takes : n ≢ 0 → Good z false (Going (to SZ (withHeld n x)) (Take n (regular (x .key))))
+      takes : n ≢ 0 → Good z false (Going (to SZ (withHeld n x)) (TakeKey n (regular (x .key))))
       takes ne = record {
         chain = c;
         next = record {

@@ -7,14 +7,15 @@ use Prim.Native.Nat.{ℕ}
 use denote.Ref.{now}
 use borrow.Author.Needs.{needs}
 use Rattle.acts.specs.declared.Effect.{Effect}
-use Rattle.acts.specs.declared.Effect.the-variants.{Nothing, Take, Free, Aim, Place, Mark, Unlink, Store, Count, Size}
+use Rattle.acts.specs.declared.Effect.the-variants.{Nothing, TakeKey, TakeDummy, Free, Aim, Place, Mark, Unlink, Store, Count, Size}
 use Rattle.writes.specs.Writes.{isNothing, nodesAfter}
 use Rattle.writes.proofs.carry.Statement.{statement}
 use Rattle.writes.proofs.carry.Tie as tie
 
 unwritten : (e : Effect) (ns : List ℕ) → isNothing e ≡ true → nodesAfter e ns ≡ ns
 unwritten Nothing ns t = refl
-unwritten (Take n split) ns t = absurd (false≢true t)
+unwritten (TakeKey n split) ns t = absurd (false≢true t)
+unwritten (TakeDummy n split) ns t = absurd (false≢true t)
 unwritten (Free n) ns t = absurd (false≢true t)
 unwritten (Aim n next) ns t = absurd (false≢true t)
 unwritten (Place n next prev) ns t = absurd (false≢true t)
