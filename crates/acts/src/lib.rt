@@ -9,8 +9,13 @@ use record::Worker;
 // The write of one step, by what it does to shared memory.
 pub enum Effect {
     Nothing,
-    // I1, B4: the node is taken, with its split key.
-    Take {
+    // I1: the key node is taken, with its split key.
+    TakeKey {
+        node: u32,
+        split: u32,
+    },
+    // B4: the dummy node is taken, with its split key.
+    TakeDummy {
         node: u32,
         split: u32,
     },

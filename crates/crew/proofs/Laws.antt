@@ -23,7 +23,7 @@ use Rattle.header.specs.Header.{limitBroken, headerDamaged, isShort, missing}
 use Rattle.record.specs.declared.Worker.{Worker}
 use Rattle.record.specs.Worker.{idle}
 use Rattle.acts.specs.declared.Effect.{Effect}
-use Rattle.acts.specs.declared.Effect.the-variants.{Nothing, Take, Free, Aim, Place, Mark, Unlink, Store, Count, Size}
+use Rattle.acts.specs.declared.Effect.the-variants.{Nothing, TakeKey, TakeDummy, Free, Aim, Place, Mark, Unlink, Store, Count, Size}
 use Rattle.acts.specs.declared.Move.{Move}
 use Rattle.acts.specs.declared.Move.the-variants.{Damaged as Hurt, Going, Ended}
 use Rattle.acts.specs.declared.Called.{Called}
@@ -46,7 +46,8 @@ use Rattle.crew.specs.One.{turn, pastOf, mostOf, serveOne}
 -- a write leaves the limits and the busy set as they are
 pub sized : (e : Effect) (h : Header) → (headerAfter e h .m ≡ h .m) × (headerAfter e h .k ≡ h .k) × (headerAfter e h .w ≡ h .w) × (headerAfter e h .busy ≡ h .busy)
 sized Nothing h = (refl, refl, refl, refl)
-sized (Take n split) h = (refl, refl, refl, refl)
+sized (TakeKey n split) h = (refl, refl, refl, refl)
+sized (TakeDummy n split) h = (refl, refl, refl, refl)
 sized (Free n) h = (refl, refl, refl, refl)
 sized (Aim n next) h = (refl, refl, refl, refl)
 sized (Place n next prev) h = (refl, refl, refl, refl)

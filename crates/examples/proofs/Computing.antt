@@ -5,7 +5,7 @@ use Rattle.split.specs.Split.{rev, reverse, regular, dummy}
 use Rattle.tree.specs.Tree.{par, parentOf, climb, ancestors, among, before, justBefore, onPath, nextDown, powerBelow, powerOfTwo, powerUpTo}
 use Rattle.words.specs.Words.{word, put, bucket, store, linkWord, linkTo, isTo}
 use Rattle.sets.specs.Sets.{bit, isIn, dropped, raised}
-use Rattle.scans.specs.Scans.{leave, sweep, freeFrom, lowest, cleared}
+use Rattle.scans.specs.Scans.{leave, sweep, freeFrom, freeNode, cleared}
 use Rattle.chain.specs.Chain.{isKey, keysFrom}
 use Rattle.header.specs.Header.{limitBroken, sizeBroken, busyBeyond, headerDamaged, isShort, doubles}
 use Rattle.record.specs.Worker.{begun, heldKey, heldDummy}
@@ -21,7 +21,7 @@ use Rattle.story.specs.Run.{State, Call, left}
 unfoldable pub computed : State → Call → Left
 unfolding
     pick rev reverse regular dummy par parentOf climb ancestors among before justBefore onPath nextDown powerBelow powerOfTwo word put bucket
-    store linkWord linkTo isTo bit isIn dropped raised leave sweep freeFrom lowest cleared isKey keysFrom powerUpTo limitBroken sizeBroken
+    store linkWord linkTo isTo bit isIn dropped raised leave sweep freeFrom freeNode cleared isKey keysFrom powerUpTo limitBroken sizeBroken
     busyBeyond headerDamaged doubles begun heldKey heldDummy unknownName bucketBeyond nodeBeyond bitDisagrees idleNotZero kindMisfit
     errandMisfit makingAstray sizeMisfit workerDamaged badLink wantOf heldFor notFound foundKey found comes f1 f2 judged f3 f4 placed l2 tb
     b2 b4 b8 i1 sz i8 i9 i10 d4a d4b d6 decidedAt decided wordGiven bucketAt wordAt wordFor splitFor closedBy tick isShort prepareVerdict prepared startVerdict

@@ -14,7 +14,7 @@ use Rattle.record.specs.Fields.{to, withErrand, withWanted, withMaking, withSiz
 use Rattle.record.specs.declared.Worker.{Worker}
 use Rattle.moves.specs.declared.Seen.{Seen}
 use Rattle.acts.specs.declared.Effect.{Effect}
-use Rattle.acts.specs.declared.Effect.the-variants.{Nothing, Take, Free, Aim, Place, Mark, Unlink, Store, Count, Size}
+use Rattle.acts.specs.declared.Effect.the-variants.{Nothing, TakeKey, TakeDummy, Free, Aim, Place, Mark, Unlink, Store, Count, Size}
 use Rattle.acts.specs.declared.Move.{Move}
 use Rattle.acts.specs.declared.Move.the-variants.{Damaged, Going, Ended}
 
@@ -141,7 +141,7 @@ b4 s =
     let x = s .worker in
     pick (eqb (s .word) 0)
     (pick (eqb (x .kind) INSERT && eqb (x .held) 0) Damaged (Ended NoDummy Nothing))
-    (Going (to F1 (withErrand DUMMY (withDummy (s .word) x))) (Take (s .word) (dummy (x .making))))
+    (Going (to F1 (withErrand DUMMY (withDummy (s .word) x))) (TakeDummy (s .word) (dummy (x .making))))
 
 unfoldable pub b8 : Seen → Move
 b8 s =
@@ -156,7 +156,7 @@ unfoldable pub i1 : Seen → Move
 i1 s =
     let x = s .worker in
     pick (eqb (s .word) 0) (Ended NoKeyNode Nothing)
-    (Going (to SZ (withHeld (s .word) x)) (Take (s .word) (regular (x .key))))
+    (Going (to SZ (withHeld (s .word) x)) (TakeKey (s .word) (regular (x .key))))
 
 unfoldable pub sz : Seen → Move
 sz s = on (to TB (withWanted (s .worker .key % s .header .size) (s .worker)))

@@ -59,7 +59,7 @@ impl Seen {
                 effect: Effect::Nothing,
             };
         }
-        let effect = Effect::Take {
+        let effect = Effect::TakeDummy {
             node: free,
             split: split::dummy_key(x.making),
         };

@@ -66,7 +66,7 @@ impl Seen {
                 effect: Effect::Nothing,
             };
         }
-        let effect = Effect::Take {
+        let effect = Effect::TakeKey {
             node: free,
             split: split::regular_key(x.key),
         };

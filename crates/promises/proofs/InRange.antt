@@ -10,8 +10,8 @@ use borrow.Author.Tests.{ltb-false, leb-false}
 use lib.Dec.{ltb}
 use Rattle.choice.specs.Choice.{pick}
 use Rattle.choice.proofs.Cases.{both, by-bool}
-use Rattle.scans.specs.Scans.{lowest}
-use Rattle.scans.proofs.Laws.{lowest-free}
+use Rattle.scans.specs.Scans.{freeNode}
+use Rattle.scans.proofs.Laws.{free-node}
 use Rattle.names.specs.Names.{I1, B4}
 use Rattle.names.specs.declared.Answer.{Answer}
 use Rattle.header.specs.declared.Header.{Header}
@@ -101,20 +101,20 @@ module _ (h : Header) (x : Worker) (r : InRange h x) where
   held-dummy = both (λ (n : ℕ). n ≤ nodesOf h) _ (r .dummy) (omega arith)
 
 -- a free node is found among those looked through
-lowest-le : (ns : List ℕ) (from to : ℕ) → lowest ns from to ≤ to
-lowest-le ns from to = by-zero (ℕ-discrete (lowest ns from to) 0)
+free-le : (ns : List ℕ) (lo hi : ℕ) → 1 ≤ lo → freeNode ns lo hi ≤ hi
+free-le ns lo hi one = by-zero (ℕ-discrete (freeNode ns lo hi) 0)
   where
-    by-zero : Dec (lowest ns from to ≡ 0) → lowest ns from to ≤ to
+    by-zero : Dec (freeNode ns lo hi ≡ 0) → freeNode ns lo hi ≤ hi
     by-zero (yes e) = omega arith
-    by-zero (no ne) = lowest-free ns from to (lowest ns from to) refl ne .1
+    by-zero (no ne) = free-node ns lo hi (freeNode ns lo hi) refl ne one .1
 
 pub found-key : (t : Turn) (ts : Tables) → placeOf t ≡ I1 → wordFor t ts ≤ nodesOf (t .header)
 unfolding wordFor wordAt wordGiven pick
-found-key t ts p = rw p (lowest-le (ts .nodes) _ _)
+found-key t ts p = rw p (free-le (ts .nodes) _ _ (omega arith))
 
 pub found-dummy : (t : Turn) (ts : Tables) → placeOf t ≡ B4 → wordFor t ts ≤ nodesOf (t .header)
 unfolding wordFor wordAt wordGiven pick
-found-dummy t ts p = rw p (omega (arith, lowest-le (ts .nodes) 1 (dummiesOf (t .header))))
+found-dummy t ts p = rw p (omega (arith, free-le (ts .nodes) 1 (dummiesOf (t .header)) (omega arith)))
 
 -- a step is refused by its verdict, or its record is in range and its decision is carried out
 pub by-verdict :

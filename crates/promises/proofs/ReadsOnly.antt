@@ -9,7 +9,7 @@ use Rattle.choice.proofs.Cases.{by-eq}
 use Rattle.choice.proofs.Auto.{pick-true, pick-false}
 use borrow.Author.Tests.{eq-eqb, ne-eqb}
 use Rattle.words.specs.Words.{Tables, lengths, bucket}
-use Rattle.scans.proofs.Laws.{lowest-reads}
+use Rattle.scans.proofs.Laws.{free-reads}
 use Rattle.names.specs.Names.{I1, TB, B2, B4, F1, F2, F3, F4, L2, D4A, D4B}
 use Rattle.moves.specs.declared.Seen.{Seen}
 use Rattle.acts.specs.declared.Move.{Move}
@@ -48,10 +48,10 @@ module _ (t : Turn) (ts us : Tables) (agree : Agree (Reads t) (t .header) ts us)
   word-same : wordFor t ts ≡ wordFor t us
   unfolding wordFor wordAt wordGiven
   word-same =
-      at-place (placeOf t) I1 _ _ _ _ (λ p. lowest-reads (ts .nodes) (us .nodes) _ _ (λ n a b. agree .same (ofNode n standing) (A.i1 p n (omega arith) b)))
+      at-place (placeOf t) I1 _ _ _ _ (λ p. free-reads (ts .nodes) _ _ (us .nodes) (λ n a b. agree .same (ofNode n standing) (A.i1 p n (omega arith) b)))
       (at-place (placeOf t) TB _ _ _ _ at-tb
       (at-place (placeOf t) B2 _ _ _ _ at-b2
-      (at-place (placeOf t) B4 _ _ _ _ (λ p. lowest-reads (ts .nodes) (us .nodes) _ _ (λ n a b. agree .same (ofNode n standing) (A.b4 p n a b)))
+      (at-place (placeOf t) B4 _ _ _ _ (λ p. free-reads (ts .nodes) _ _ (us .nodes) (λ n a b. agree .same (ofNode n standing) (A.b4 p n a b)))
       (at-place (placeOf t) F1 _ _ _ _ (λ p. agree .same _ (A.f1 p))
       (at-place (placeOf t) F2 _ _ _ _ (λ p. agree .same _ (A.f2 p))
       (at-place (placeOf t) F3 _ _ _ _ (λ p. agree .same _ (A.f3 p))

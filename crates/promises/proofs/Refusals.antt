@@ -15,8 +15,8 @@ use Rattle.choice.proofs.Exactly.{Tells, fails, Gives, fine, here, later, refus
 use Rattle.choice.proofs.Telling.{tells-as, tells-eq, tells-lt, tells-le, tells-or, tells-and, tells-not, tells-broken, clears-as, clears-lt, clears-or}
 use Rattle.words.specs.declared.Lengths.{Lengths}
 use Rattle.words.specs.Words.{Tables, lengths, SPLIT-KEY, word}
-use Rattle.scans.specs.Scans.{lowest}
-use Rattle.scans.proofs.Laws.{lowest-free, lowest-none}
+use Rattle.scans.specs.Scans.{freeNode}
+use Rattle.scans.proofs.Laws.{free-node, free-none}
 use Rattle.names.specs.Names.{IDLE, I1, SZ, TB, B2, B4, F1, F2, F3, F4, L2, B8, I8, I9, I10, D4A, D4B, DUMMY, INSERT, FIND, DELETE, KEY-LIMIT, hasRow}
 use Rattle.names.specs.declared.Answer.{Answer}
 use Rattle.names.specs.declared.Answer.the-variants.{Going as GoingOn, Damaged as IsDamaged, NoKeyNode, NoDummy}
@@ -129,15 +129,15 @@ of-claim p (at q claim rest) c = by (eqb p q) refl c (of-claim p rest)
     by true e d on = inl (eqb-true p q e, d)
     by false e d on = inr (eqb-false p q e, on d)
 
--- the lowest free node is 0 exactly where none is free
-none-free : (ns : List ℕ) (first last : ℕ) → 1 ≤ first → Tells (eqb (lowest ns first last) 0) (NoneFree ns first last)
+-- the free node is 0 exactly where none is free
+none-free : (ns : List ℕ) (first last : ℕ) → 1 ≤ first → Tells (eqb (freeNode ns first last) 0) (NoneFree ns first last)
 none-free ns first last one =
-    tells-as (λ e n low. lowest-none ns first last e n (omega arith) low) (λ none. zero-of none (ℕ-discrete (lowest ns first last) 0))
-    (tells-eq (lowest ns first last) 0)
+    tells-as (λ e n low. free-none ns first last e one n low) (λ none. zero-of none (ℕ-discrete (freeNode ns first last) 0))
+    (tells-eq (freeNode ns first last) 0)
   where
-    zero-of : NoneFree ns first last → Dec (lowest ns first last ≡ 0) → lowest ns first last ≡ 0
+    zero-of : NoneFree ns first last → Dec (freeNode ns first last ≡ 0) → freeNode ns first last ≡ 0
     zero-of none (yes e) = e
-    zero-of none (no ne) = let f = lowest-free ns first last _ refl ne in absurd (none _ (f .0) (f .1) (f .2))
+    zero-of none (no ne) = let f = free-node ns first last _ refl ne one in absurd (none _ (f .0) (f .1) (f .2))
 
 -- the answer of a decision
 abbrev answerOf : Move → Answer

@@ -6,7 +6,7 @@ use mathlib.Core.List.{List, [], _∷_}
 use mathlib.Core.Path.{_≡_, refl}
 use Rattle.words.specs.Words.{Tables, tables, TAKEN, put, store, linkTo}
 use Rattle.acts.specs.declared.Effect.{Effect}
-use Rattle.acts.specs.declared.Effect.the-variants.{Nothing, Take, Free, Aim, Place, Mark, Unlink, Store, Count, Size}
+use Rattle.acts.specs.declared.Effect.the-variants.{Nothing, TakeKey, TakeDummy, Free, Aim, Place, Mark, Unlink, Store, Count, Size}
 use Rattle.acts.specs.declared.Move.{Move}
 use Rattle.acts.specs.declared.Move.the-variants.{Damaged, Going, Ended}
 use Rattle.writes.specs.Writes.{tablesAfter}
@@ -26,10 +26,15 @@ pub record Stored : Type 0 where
 abbrev pub stored : Word → ℕ → Stored
 stored v x = record { at = v; what = x }
 
+-- a node is taken: its split key, and its standing
+abbrev pub takes : ℕ → ℕ → List Stored
+takes n split = stored (ofNode n splitKey) split ∷ stored (ofNode n standing) TAKEN ∷ []
+
 -- the stores of an effect, in their order
 abbrev pub stores : Effect → List Stored
 stores Nothing = []
-stores (Take n split) = stored (ofNode n splitKey) split ∷ stored (ofNode n standing) TAKEN ∷ []
+stores (TakeKey n split) = takes n split
+stores (TakeDummy n split) = takes n split
 stores (Free n) = stored (ofNode n standing) 0 ∷ []
 stores (Aim n next) = stored (ofNode n link) (linkTo next false) ∷ []
 stores (Place n next prev) = stored (ofNode n link) (linkTo next false) ∷ stored (ofNode prev link) (linkTo n false) ∷ []
@@ -59,7 +64,8 @@ storedAll (s ∷ ss) ts = storedAll ss (storedTo s ts)
 -- an effect is its stores
 pub effect-stores : (e : Effect) (ts : Tables) → tablesAfter e ts ≡ storedAll (stores e) ts
 effect-stores Nothing ts = refl
-effect-stores (Take n split) ts = refl
+effect-stores (TakeKey n split) ts = refl
+effect-stores (TakeDummy n split) ts = refl
 effect-stores (Free n) ts = refl
 effect-stores (Aim n next) ts = refl
 effect-stores (Place n next prev) ts = refl

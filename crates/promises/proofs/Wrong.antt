@@ -9,7 +9,7 @@ use Rattle.split.specs.Split.{rev, reverse, regular, dummy}
 use Rattle.tree.specs.Tree.{par, parentOf, climb, ancestors, among, onPath, powerBelow, powerOfTwo, powerUpTo}
 use Rattle.words.specs.Words.{Left, LINK, STANDING, word, put, bucket, store, linkWord, linkTo, isTo}
 use Rattle.sets.specs.Sets.{bit, isIn, dropped, raised}
-use Rattle.scans.specs.Scans.{leave, sweep, freeFrom, lowest}
+use Rattle.scans.specs.Scans.{leave, sweep, freeFrom, freeNode}
 use Rattle.names.specs.Names.{numberOf}
 use Rattle.header.specs.Header.{limitBroken, sizeBroken, busyBeyond, headerDamaged, doubles}
 use Rattle.record.specs.Worker.{begun, heldKey, heldDummy}
@@ -26,7 +26,7 @@ use Rattle.promises.specs.Wrong
 ours : Wrong.Step
 unfolding
     rev reverse regular dummy par parentOf climb ancestors among onPath powerBelow powerOfTwo word put bucket store linkWord
-    linkTo isTo bit isIn dropped leave sweep freeFrom lowest powerUpTo limitBroken sizeBroken busyBeyond headerDamaged doubles
+    linkTo isTo bit isIn dropped leave sweep freeFrom freeNode powerUpTo limitBroken sizeBroken busyBeyond headerDamaged doubles
     heldKey heldDummy unknownName bucketBeyond nodeBeyond bitDisagrees idleNotZero kindMisfit errandMisfit makingAstray sizeMisfit
     workerDamaged badLink heldFor notFound comes f1 placed l2 tb b4 i1 sz i8 i9 d4b d6 decidedAt decided wordGiven askedAt wordAt wordFor splitFor
     closedBy tick isShort stepVerdict stepOf pick

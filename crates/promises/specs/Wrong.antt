@@ -17,7 +17,7 @@ use Rattle.record.specs.Fields.{to, withSteps}
 use Rattle.record.specs.Worker.{fresh, idle}
 use Rattle.moves.specs.declared.Seen.{Seen}
 use Rattle.acts.specs.declared.Effect.{Effect}
-use Rattle.acts.specs.declared.Effect.the-variants.{Nothing, Take, Free, Aim, Place, Mark, Unlink, Store, Count, Size}
+use Rattle.acts.specs.declared.Effect.the-variants.{Nothing, TakeKey, TakeDummy, Free, Aim, Place, Mark, Unlink, Store, Count, Size}
 use Rattle.acts.specs.declared.Move.{Move}
 use Rattle.acts.specs.declared.Move.the-variants.{Damaged, Going, Ended}
 use Rattle.moves.specs.Moves.{on, decided}
@@ -154,7 +154,8 @@ decidingBy f t ts Pass = carried t (f (seenBy t ts)) ts
 -- 2. "Freeing an unlinked node at once": its standing becomes 0 and not the busy set
 abbrev pub freeing : Effect → Effect
 freeing Nothing = Nothing
-freeing (Take n split) = Take n split
+freeing (TakeKey n split) = TakeKey n split
+freeing (TakeDummy n split) = TakeDummy n split
 freeing (Free n) = Free n
 freeing (Aim n next) = Aim n next
 freeing (Place n next prev) = Place n next prev

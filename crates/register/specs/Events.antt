@@ -14,7 +14,7 @@ use Rattle.names.specs.declared.Answer.the-variants.{Yes, No}
 use Rattle.record.specs.declared.Worker.{Worker}
 use Rattle.record.specs.Worker.{idle, within}
 use Rattle.acts.specs.declared.Effect.{Effect}
-use Rattle.acts.specs.declared.Effect.the-variants.{Nothing, Take, Free, Aim, Place, Mark, Unlink, Store, Count, Size}
+use Rattle.acts.specs.declared.Effect.the-variants.{Nothing, TakeKey, TakeDummy, Free, Aim, Place, Mark, Unlink, Store, Count, Size}
 use Rattle.acts.specs.declared.Move.{Move}
 use Rattle.acts.specs.declared.Move.the-variants.{Damaged, Going, Ended}
 use Rattle.moves.specs.Moves.{decided}
@@ -31,7 +31,8 @@ pub data Event : Type 0 where
 -- L2: "an insert takes effect here", on the errand of its key. D4a: "A delete takes effect here", at its mark
 abbrev pub written : Worker → Effect → Event
 written x Nothing = nothing
-written x (Take n split) = nothing
+written x (TakeKey n split) = nothing
+written x (TakeDummy n split) = nothing
 written x (Free n) = nothing
 written x (Aim n next) = nothing
 written x (Place n next prev) = pick (eqb (x .errand) KEY) (added (x .key)) nothing

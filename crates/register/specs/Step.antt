@@ -6,7 +6,7 @@ use lib.Dec.{eqb}
 use Rattle.choice.specs.Choice.{pick}
 use Rattle.tree.specs.Tree.{parentOf}
 use Rattle.words.specs.Words.{Tables, Left, SPLIT-KEY, LINK, word, bucket}
-use Rattle.scans.specs.Scans.{lowest}
+use Rattle.scans.specs.Scans.{freeNode}
 use Rattle.names.specs.Names.{I1, TB, B2, B4, F1, F2, F3, F4, L2, D4A, D4B}
 use Rattle.names.specs.declared.Answer.{Answer}
 use Rattle.header.specs.declared.Header.{Header}
@@ -27,15 +27,15 @@ pub record Small (h : Header) : Type 0 where
 abbrev pub refusedWith : Answer → Turn → Outcome
 refusedWith a t = handedBack a (t .header) (t .worker)
 
--- ---- look: the shared word that the step reads at its place, or the lowest free node of the sort (0 is none); v is the value of the bucket asked for
+-- ---- look: the shared word that the step reads at its place, or the free node of the sort (0 is none); v is the value of the bucket asked for
 unfoldable pub wordGiven : ℕ → Turn → List ℕ → ℕ → ℕ
 wordGiven p t ns v =
     let h = t .header in
     let x = t .worker in
-    pick (eqb p I1) (lowest ns (dummiesOf h + 1) (nodesOf h))
+    pick (eqb p I1) (freeNode ns (dummiesOf h + 1) (nodesOf h))
     (pick (eqb p TB) v
     (pick (eqb p B2) v
-    (pick (eqb p B4) (lowest ns 1 (dummiesOf h))
+    (pick (eqb p B4) (freeNode ns 1 (dummiesOf h))
     (pick (eqb p F1) (word ns (x .start) LINK)
     (pick (eqb p F2) (word ns (x .cur) LINK)
     (pick (eqb p F3) (word ns (x .prev) LINK)

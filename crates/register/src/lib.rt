@@ -128,10 +128,10 @@ impl Turn {
         let dummies = self.header.m + self.header.w;
         let place = self.worker.place;
         match place {
-            place::I1 => scans::lowest(nodes, dummies + 1, dummies + self.header.k),
+            place::I1 => scans::free_node(nodes, dummies + 1, dummies + self.header.k),
             place::TB => words::bucket(buckets, self.worker.wanted),
             place::B2 => words::bucket(buckets, tree::parent(self.worker.making)),
-            place::B4 => scans::lowest(nodes, 1, dummies),
+            place::B4 => scans::free_node(nodes, 1, dummies),
             place::F1 => words::word(nodes, self.worker.start, words::LINK),
             place::F2 => words::word(nodes, self.worker.cur, words::LINK),
             place::F3 => words::word(nodes, self.worker.prev, words::LINK),

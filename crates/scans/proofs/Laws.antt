@@ -9,18 +9,18 @@ use native.Mathlib.Nat.{mul-comm, add-zero, add-suc}
 use native.Mathlib.Numerals.{add-one}
 use native.Mathlib.Decide.{ℕ-discrete}
 use native.Mathlib.Omega.{arith}
-use borrow.Author.Tests.{eq-eqb, ne-eqb, le-leb, lt-leb, lt-ltb, leb-true, leb-false}
-use lib.Dec.{eqb, leb, ltb}
+use borrow.Author.Tests.{le-leb, lt-leb, lt-ltb, leb-true, leb-false}
+use lib.Dec.{leb, ltb}
 use lib.ListN.{length, getD, set}
 use lib.Seq.{getD-set-other, set-getD, set-out}
-use Rattle.choice.specs.Choice.{pick}
 use Rattle.choice.proofs.Auto.{pick-true, pick-false}
-use Rattle.choice.proofs.Cases.{by-eq, both}
+use Rattle.choice.proofs.Cases.{both}
 use Rattle.sets.specs.Sets.{dropped}
 use Rattle.sets.proofs.Laws.{dropped-zero, dropped-le}
 use Rattle.words.specs.Words.{STANDING, LARGEST-SET, word, put, store}
 use Rattle.words.proofs.Laws.{put-length, put-same, put-node, store-length}
-use Rattle.scans.specs.Scans.{leave, sweep, freeFrom, lowest, cleared}
+use Rattle.scans.specs.Scans.{leave, sweep, freeNode, cleared}
+use Rattle.scans.proofs.Free.{found-after, none-after, same-after}
 
 -- a standing that is a set loses the worker, and any other stays
 pub leave-set : (w s : ℕ) → s ≤ LARGEST-SET → leave w s ≡ dropped w s
@@ -146,96 +146,27 @@ sweep-standing w (suc n) ns i h1 hi hn = by-node (ℕ-discrete i (suc n)) (λ h.
     by-node (no ne) below =
         put-node m (suc n) STANDING v i STANDING (omega arith) (omega arith) ne ∙ below (omega arith)
 
--- the turns of the search for a free node
-pub free-none : (ns : List ℕ) (n : ℕ) → freeFrom ns n 0 ≡ 0
-unfolding freeFrom
-free-none ns n = refl
+-- ---- a free node: whoever looks for one knows these laws alone
+module _ (ns : List ℕ) (lo hi : ℕ) where
+  -- the node that is found is one of those asked for, and it is free
+  pub free-node : (n : ℕ) → freeNode ns lo hi ≡ n → n ≢ 0 → 1 ≤ lo → (lo ≤ n) × (n ≤ hi) × (word ns n STANDING ≡ 0)
+  unfolding freeNode
+  free-node n e ne one = let f = found-after ns (lo - 1) (hi - (lo - 1)) n e ne in (omega (arith, f .low), omega (arith, f .low, f .high), f .free)
 
-free-suc : (ns : List ℕ) (n d : ℕ) → freeFrom ns n (suc d) ≡ pick (eqb (word ns (suc n) STANDING) 0) (suc n) (freeFrom ns (suc n) d)
-unfolding freeFrom
-free-suc ns n d = refl
+  -- 0 says that none is free
+  pub free-none : freeNode ns lo hi ≡ 0 → 1 ≤ lo → (n : ℕ) → lo ≤ n → n ≤ hi → word ns n STANDING ≢ 0
+  unfolding freeNode
+  free-none e one n a b = none-after ns (lo - 1) (hi - (lo - 1)) e n (omega arith) (omega arith)
 
--- node n is passed and to is not reached: the next is free, or it is not
-module _ (ns : List ℕ) (n to : ℕ) (h : n < to) where
-  left-over : to - n ≡ suc (to - (n + 1))
-  left-over = omega arith
+  -- the standings of those asked for decide it
+  pub free-reads : (ks : List ℕ) → ((n : ℕ) → lo ≤ n → n ≤ hi → word ns n STANDING ≡ word ks n STANDING) → freeNode ns lo hi ≡ freeNode ks lo hi
+  unfolding freeNode
+  free-reads ks agree = same-after ns ks (lo - 1) (hi - (lo - 1)) (λ n a b. agree n (omega arith) (omega arith))
 
-  pub free-here : word ns (n + 1) STANDING ≡ 0 → freeFrom ns n (to - n) ≡ n + 1
-  free-here z = rw (left-over, free-suc ns n (to - (n + 1)), ← add-one n) (pick-true _ _ _ (eq-eqb _ 0 z))
-
-  pub free-on : (word ns (n + 1) STANDING ≡ 0 → ⊥) → freeFrom ns n (to - n) ≡ freeFrom ns (n + 1) (to - (n + 1))
-  free-on z = rw (left-over, free-suc ns n (to - (n + 1)), ← add-one n) (pick-false _ _ _ (ne-eqb _ 0 z))
-
--- the node that is found: it is one of those looked through, it is free, and no node before it is
-pub record Found (ns : List ℕ) (after to n : ℕ) : Type 0 where
-  pub low : after < n
-  pub high : n ≤ to
-  pub free : word ns n STANDING ≡ 0
-  pub least : (m : ℕ) → after < m → m < n → word ns m STANDING ≢ 0
-
--- of the d nodes after n
-free-found : (ns : List ℕ) (n d r : ℕ) → freeFrom ns n d ≡ r → r ≢ 0 → Found ns n (n + d) r
-free-found ns n zero r e ne = absurd (ne (sym e ∙ free-none ns n))
-free-found ns n (suc d) r e ne =
-    by-eq (λ (x : ℕ). x ≡ r → Found ns n (n + suc d) r) (word ns (suc n) STANDING) 0 here
-    (λ z q. on z (free-found ns (suc n) d r q ne))
-    (sym (free-suc ns n d) ∙ e)
-  where
-    here : word ns (suc n) STANDING ≡ 0 → suc n ≡ r → Found ns n (n + suc d) r
-    here z q =
-        record {
-          low = omega arith;
-          high = omega arith;
-          free = rw (← q) z;
-          least = λ m a b. absurd (omega arith);
-        }
-
-    passed : word ns (suc n) STANDING ≢ 0 → Found ns (suc n) (suc n + d) r → (m : ℕ) → n < m → m < r → Dec (m ≡ suc n) → word ns m STANDING ≢ 0
-    passed z f m a b (yes p) = rw p z
-    passed z f m a b (no p) = f .least m (omega arith) b
-
-    on : word ns (suc n) STANDING ≢ 0 → Found ns (suc n) (suc n + d) r → Found ns n (n + suc d) r
-    on z f =
-        record {
-          low = omega (arith, f .low);
-          high = omega (arith, f .high);
-          free = f .free;
-          least = λ m a b. passed z f m a b (ℕ-discrete m (suc n));
-        }
-
-free-all : (ns : List ℕ) (n d : ℕ) → freeFrom ns n d ≡ 0 → (m : ℕ) → n < m → m ≤ n + d → word ns m STANDING ≢ 0
-free-all ns n zero e m a b = absurd (omega arith)
-free-all ns n (suc d) e m a b =
-    by-eq (λ (x : ℕ). x ≡ 0 → word ns m STANDING ≢ 0) (word ns (suc n) STANDING) 0 (λ z q. absurd (omega arith))
-    (λ z q. passed z (free-all ns (suc n) d q m) (ℕ-discrete m (suc n)))
-    (sym (free-suc ns n d) ∙ e)
-  where
-    passed : word ns (suc n) STANDING ≢ 0 → (suc n < m → m ≤ suc n + d → word ns m STANDING ≢ 0) → Dec (m ≡ suc n) → word ns m STANDING ≢ 0
-    passed z later (yes p) = rw p z
-    passed z later (no p) = later (omega arith) (omega arith)
-
-free-reads : (ns ks : List ℕ) (n d : ℕ) → ((m : ℕ) → n < m → m ≤ n + d → word ns m STANDING ≡ word ks m STANDING) → freeFrom ns n d ≡ freeFrom ks n d
-free-reads ns ks n zero agree = free-none ns n ∙ sym (free-none ks n)
-free-reads ns ks n (suc d) agree =
-    rw (free-suc ns n d, free-suc ks n d, agree (suc n) (omega arith) (omega arith), free-reads ns ks (suc n) d (λ m a b. agree m (omega arith) (omega arith)))
-
--- the lowest free node: one of those asked for, free, and no lower one is; 0 says that none is free
-found : (ns : List ℕ) (from to n : ℕ) → lowest ns from to ≡ n → n ≢ 0 → Found ns (from - 1) (from - 1 + (to - (from - 1))) n
-unfolding lowest
-found ns from to n e ne = free-found ns (from - 1) (to - (from - 1)) n e ne
-
-pub lowest-free : (ns : List ℕ) (from to n : ℕ) → lowest ns from to ≡ n → (n ≡ 0 → ⊥) → (from ≤ n) × (n ≤ to) × (word ns n STANDING ≡ 0)
-lowest-free ns from to n e ne =
-    let f = found ns from to n e ne in
-    (omega (arith, f .low), omega (arith, f .low, f .high), f .free)
-
-pub lowest-none : (ns : List ℕ) (from to : ℕ) → lowest ns from to ≡ 0 → (n : ℕ) → 1 ≤ n → from ≤ n → n ≤ to → word ns n STANDING ≡ 0 → ⊥
-unfolding lowest
-lowest-none ns from to e n h1 a b = free-all ns (from - 1) (to - (from - 1)) e n (omega arith) (omega arith)
-
-pub lowest-reads : (ns ks : List ℕ) (from to : ℕ) → ((n : ℕ) → from ≤ n → n ≤ to → word ns n STANDING ≡ word ks n STANDING) → lowest ns from to ≡ lowest ks from to
-unfolding lowest
-lowest-reads ns ks from to agree = free-reads ns ks (from - 1) (to - (from - 1)) (λ m a b. agree m (omega arith) (omega arith))
+  -- "the lowest-numbered free": no free node of those asked for is below it
+  pub free-lowest : (n : ℕ) → freeNode ns lo hi ≡ n → n ≢ 0 → 1 ≤ lo → (m : ℕ) → lo ≤ m → m < n → word ns m STANDING ≢ 0
+  unfolding freeNode
+  free-lowest n e ne one m a b = found-after ns (lo - 1) (hi - (lo - 1)) n e ne .least m (omega arith) b
 
 -- the turns of the clearing
 pub cleared-none : (ws : List ℕ) → cleared 0 ws ≡ ws

@@ -6,15 +6,15 @@ use denote.Triple.Clauses.{AtExit}
 use denote.Ref.{now}
 use borrow.Fn.Kinds.{Dens, resT, endedOf}
 use Rattle.choice.proofs.Same.{Determined}
-use Rattle.scans.proofs.lowest.Reads as lowest
-use Rattle.scans.proofs.lowest.Kinds as lowest-kinds
+use Rattle.scans.proofs.free_node.Reads as free-node
+use Rattle.scans.proofs.free_node.Kinds as free-node-kinds
 use Rattle.scans.proofs.sweep.Reads as sweep
 use Rattle.scans.proofs.sweep.Kinds as sweep-kinds
 use Rattle.scans.proofs.clear.Reads as clear
 use Rattle.scans.proofs.clear.Kinds as clear-kinds
 
-pub lowest-same : Determined 1 lowest-kinds.ps lowest-kinds.r lowest.Post
-lowest-same κs a x y e f p q = p ∙ sym q
+pub free-node-same : Determined 1 free-node-kinds.ps free-node-kinds.r free-node.Post
+free-node-same κs a x y e f p q = p ∙ sym q
 
 pub sweep-same : (κs : Lfts 1) (a : Dens κs sweep-kinds.ps) (x y : resT sweep-kinds.r κs .Denot) (e f : AtExit (endedOf 1 sweep-kinds.ps sweep-kinds.r) κs)
     → sweep.Post κs a x e → sweep.Post κs a y f → now (e .0) ≡ now (f .0)

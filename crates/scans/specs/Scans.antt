@@ -22,9 +22,9 @@ unfoldable pub freeFrom : List ℕ → ℕ → ℕ → ℕ
 freeFrom ns n zero = 0
 freeFrom ns n (suc d) = pick (eqb (word ns (suc n) STANDING) 0) (suc n) (freeFrom ns (suc n) d)
 
--- the lowest free node from node from to node to; 0 where none is free
-unfoldable pub lowest : List ℕ → ℕ → ℕ → ℕ
-lowest ns from to = freeFrom ns (from - 1) (to - (from - 1))
+-- the free node of those from node lo to node hi: the lowest; 0 where none is free
+unfoldable pub freeNode : List ℕ → ℕ → ℕ → ℕ
+freeNode ns lo hi = freeFrom ns (lo - 1) (hi - (lo - 1))
 
 -- the words once the first count of them are 0
 unfoldable pub cleared : ℕ → List ℕ → List ℕ

@@ -1,7 +1,7 @@
-// The loops over the lent words: the lowest free node, the sweep of an ended operation, and the clearing of a new register.
+// The loops over the lent words: a free node, the sweep of an ended operation, and the clearing of a new register.
 ghost use mathlib.Core.Path.{_≡_};
 ghost use Prim.Native.Nat.{_-_, _/_, min};
-ghost use Rattle.scans.specs.Scans.{sweep, lowest, cleared};
+ghost use Rattle.scans.specs.Scans.{sweep, freeNode, cleared};
 
 // The number before n, and 0 before 0.
 fn previous(n: u32) -> u32
@@ -37,12 +37,12 @@ pub fn sweep(nodes: &mut [u32], n: u32, w: u32)
     }
 }
 
-// The lowest free node of those from node from to node to; 0, which means nothing, where none is free.
-pub fn lowest(nodes: &[u32], from: u32, to: u32) -> u32
-    ensures { λ r. ⌜ r ≡ lowest (now (nodes .entry)) from to ⌝ }
+// The free node of those from node low to node high: the lowest; 0, which means nothing, where none is free.
+pub fn free_node(nodes: &[u32], low: u32, high: u32) -> u32
+    ensures { λ r. ⌜ r ≡ freeNode (now (nodes .entry)) low high ⌝ }
 {
-    let mut n = previous(from);
-    while n < to {
+    let mut n = previous(low);
+    while n < high {
         n += 1;
         if words::word(nodes, n, words::STANDING) == 0 {
             return n;

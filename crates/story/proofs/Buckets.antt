@@ -17,19 +17,19 @@ use Rattle.tree.specs.Tree.{parentOf, nextDown}
 use Rattle.split.proofs.Laws.{dummy-first}
 use Rattle.tree.proofs.Laws.{parent-le, on-path-self, on-path-up, on-path-le, next-down-parent}
 use Rattle.promises.proofs.Order.{parent-first}
-use Rattle.words.specs.Words.{STANDING, SPLIT-KEY, TAKEN, put}
-use Rattle.scans.specs.Scans.{lowest}
-use Rattle.scans.proofs.Laws.{lowest-free}
+use Rattle.scans.specs.Scans.{freeNode}
+use Rattle.scans.proofs.Laws.{free-node}
 use Rattle.names.specs.Names.{TB, B2, B4, F1, KEY, DUMMY}
 use Rattle.header.specs.declared.Header.{Header}
 use Rattle.header.specs.Header.{dummiesOf, nodesOf}
 use Rattle.record.specs.declared.Worker.{Worker}
 use Rattle.record.specs.Fields.{to, withErrand, withWanted, withMaking, withStart, withDummy}
 use Rattle.record.specs.Worker.{heldKey, heldDummy}
-use Rattle.acts.specs.declared.Effect.the-variants.{Take, Store}
+use Rattle.acts.specs.declared.Effect.the-variants.{TakeDummy, Store}
 use Rattle.acts.specs.declared.Move.{Move}
 use Rattle.acts.specs.declared.Move.the-variants.{Going}
 use Rattle.moves.specs.Moves.{tb, b2, b4, b8, sz}
+use Rattle.writes.specs.Writes.{taken}
 use Rattle.register.specs.Chain.{key, standing}
 use Rattle.story.specs.Trace.{ticked}
 use Rattle.story.proofs.Chain.{some-on}
@@ -119,14 +119,14 @@ module _ {h : Header} {ws : List Worker} {Ps Qs : Pasts} {w : ℕ} {c m : List �
       first = parent-first (x .making) (omega (arith, b .1 .some)) (omega (arith, word-small (x .making) (s .sane .5)))
 
   -- B4: some dummy node is free, and it is taken
-  pub b4-good : Stands z F.b4 → F.At h w c m (Ps w) F.b4 x → G (b4 (seen h x (lowest m 1 D) 0))
+  pub b4-good : Stands z F.b4 → F.At h w c m (Ps w) F.b4 x → G (b4 (seen h x (freeNode m 1 D) 0))
   unfolding b4 pick
   b4-good s b = by-eq G n 0 (λ e. absurd (some-free (core z) (z .lt) (s .dum) e)) takes
     where
       n : ℕ
-      n = lowest m 1 D
+      n = freeNode m 1 D
 
-      takes : n ≢ 0 → G (Going (to F1 (withErrand DUMMY (withDummy n x))) (Take n (dummy (x .making))))
+      takes : n ≢ 0 → G (Going (to F1 (withErrand DUMMY (withDummy n x))) (TakeDummy n (dummy (x .making))))
       takes ne = record {
         chain = c;
         next = record {
@@ -149,12 +149,12 @@ module _ {h : Header} {ws : List Worker} {Ps Qs : Pasts} {w : ℕ} {c m : List �
       }
         where
           f : (1 ≤ n) × (n ≤ D) × (standing m n ≡ 0)
-          f = lowest-free m 1 D n refl ne
+          f = free-node m 1 D n refl ne (omega arith)
 
           fits : n ≤ N
           fits = omega (arith, f .1)
 
-          later : F.Later D N w 0 c m c (put (put m n SPLIT-KEY (dummy (x .making))) n STANDING TAKEN)
+          later : F.Later D N w 0 c m c (taken n (dummy (x .making)) m)
           later = take-later (core z) n (dummy (x .making)) (f .2) (f .0) fits w
 
   -- B8: the bucket is set, and the next one down the path follows

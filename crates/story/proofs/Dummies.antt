@@ -1,22 +1,21 @@
 -- A worker with no dummy in hand finds a dummy node free: each one that is not has a slot of its own, a bucket's or another worker's, and the worker's own slot is empty.
 -- Assumes nothing.
-use mathlib.Core.Path.{_≡_, refl, sym, ap, _∙_}
+use mathlib.Core.Path.{_≡_, sym, ap, _∙_}
 use mathlib.Core.Logic.{_≢_, _⊎_, inl, inr, ⊎-elim}
-use mathlib.Core.List.{List, [], _∷_, List·Memᴰ as In, List·Memᴰ·head as here, List·Memᴰ·tail as there}
-use Prim.Native.Nat.{ℕ, zero, suc, _+_, _≤_, _<_}
+use mathlib.Core.List.{List, List·Memᴰ as In}
+use Prim.Native.Nat.{ℕ, suc, _+_, _≤_, _<_}
 use native.Mathlib.Omega.{arith}
 use native.Mathlib.Decide.{ℕ-discrete}
-use lib.ListN.{length}
 use Rattle.split.specs.Split.{dummy}
 use Rattle.words.specs.Words.{TAKEN}
-use Rattle.scans.specs.Scans.{lowest}
-use Rattle.scans.proofs.Laws.{lowest-none}
+use Rattle.scans.specs.Scans.{freeNode}
+use Rattle.scans.proofs.Laws.{free-none}
 use Rattle.header.specs.declared.Header.{Header}
 use Rattle.header.specs.Header.{dummiesOf}
 use Rattle.record.specs.declared.Worker.{Worker}
 use Rattle.record.specs.Worker.{heldDummy}
 use Rattle.register.specs.Chain.{key, standing}
-use Rattle.story.proofs.Distinct.{Distinct, pigeonhole}
+use Rattle.slots.proofs.Slots.{Slots, fewer}
 use Rattle.story.proofs.Chain.{same-key}
 use Rattle.story.proofs.Core.{Pasts, recordOf, fact-key, Holder, Core}
 
@@ -47,59 +46,31 @@ module _ {h : Header} {ws : List Worker} {Ps : Pasts} {w k d : ℕ} {c m : List 
   one (worker v r ne e) (bucket b r′ i e′) q = absurd (omega arith)
   one (worker v r ne e) (worker v′ r′ ne′ e′) q = let z : v ≡ v′ = omega arith in sym e ∙ ap (λ (u : ℕ). heldDummy (recordOf ws u)) z ∙ e′
 
-  module _ (none : d ≡ 0) (full : lowest m 1 (dummiesOf h) ≡ 0) where
-    -- a dummy node that is not free has its slot
-    slot : (n : ℕ) → 1 ≤ n → n ≤ dummiesOf h → (s : ℕ) × Slot n s
-    slot n lo hi = ⊎-elim waiting taken (core .glob .kinds n (omega arith))
-      where
-        waiting : standing m n < 65536 → (s : ℕ) × Slot n s
-        waiting small = by (ℕ-discrete (standing m n) 0)
-          where
-            by : Dec (standing m n ≡ 0) → (s : ℕ) × Slot n s
-            by (yes e) = absurd (lowest-none m 1 (dummiesOf h) full n lo lo hi e)
-            by (no ne) = absurd (omega (arith, core .keyed n (omega arith) (omega (arith, ne)) small))
+  slots : Slots (dummiesOf h) Slot (suc (h .m + w))
+  slots = record { low = low; high = high; one = one; nobody = not-mine }
 
-        held : Holder (h .w) ws w n → (s : ℕ) × Slot n s
-        held o = ⊎-elim (λ e. absurd (omega (arith, e, fact-key h (o .who) c m (Ps (o .who)) (recordOf ws (o .who)) (core .fact (o .who) (o .real) (o .other)) (λ z. omega (arith, e)) .low)))
-            (λ e. (_, worker (o .who) (o .real) (o .other) e)) (o .has)
-
-        mine : (k ≡ n) ⊎ (d ≡ n) → (s : ℕ) × Slot n s
-        mine (inl e) = absurd (omega (arith, e, core .key-held (λ z. omega arith) .low))
-        mine (inr e) = absurd (omega arith)
-
-        taken : standing m n ≡ TAKEN → (s : ℕ) × Slot n s
-        taken t = ⊎-elim (λ i. let o = core .exact n i hi in (_, bucket (o .bucket) (o .real) i (o .has))) (⊎-elim mine held) (core .whole n (omega arith) t)
-
-    -- the slots of the first n dummy nodes
-    slots : (n : ℕ) → n ≤ dummiesOf h → List ℕ
-    slots zero b = []
-    slots (suc n) b = slot (suc n) (omega arith) b .0 ∷ slots n (omega arith)
-
-    as-many : (n : ℕ) (b : n ≤ dummiesOf h) → length (slots n b) ≡ n
-    unfolding slots
-    as-many zero b = refl
-    as-many (suc n) b = ap suc (as-many n (omega arith))
-
-    whose : (n : ℕ) (b : n ≤ dummiesOf h) {s : ℕ} → In s (slots n b) → (j : ℕ) × (j ≤ n) × Slot j s
-    unfolding slots
-    whose (suc n) b (here e) = (suc n, omega arith, rw e (slot (suc n) (omega arith) b .1))
-    whose (suc n) b (there i) = let q = whose n (omega arith) i in (q .0, omega (arith, q .1), q .2)
-
-    distinct : (n : ℕ) (b : n ≤ dummiesOf h) → Distinct (slots n b)
-    unfolding slots
-    distinct zero b = tt
-    distinct (suc n) b = (λ i. let q = whose n (omega arith) i in omega (arith, q .1, one (slot (suc n) (omega arith) b .1) (q .2) refl), distinct n (omega arith))
-
-  -- more nodes than slots
-  pub some-free : w < h .w → d ≡ 0 → lowest m 1 (dummiesOf h) ≢ 0
-  some-free lt none full =
-      omega (
-        arith,
-        as-many none full (dummiesOf h) (omega arith),
-        pigeonhole (dummiesOf h) (suc (h .m + w) ∷ slots none full (dummiesOf h) (omega arith))
-            (λ i. not-mine (whose none full (dummiesOf h) (omega arith) i .2) refl, distinct none full (dummiesOf h) (omega arith)) bounded,
-      )
+  -- a dummy node that is not free has its slot
+  slot : d ≡ 0 → freeNode m 1 (dummiesOf h) ≡ 0 → (n : ℕ) → 1 ≤ n → n ≤ dummiesOf h → (s : ℕ) × Slot n s
+  slot none full n lo hi = ⊎-elim waiting taken (core .glob .kinds n (omega arith))
     where
-      bounded : (s : ℕ) → In s (suc (h .m + w) ∷ slots none full (dummiesOf h) (omega arith)) → (1 ≤ s) × (s ≤ dummiesOf h)
-      bounded s (here e) = (omega arith, omega arith)
-      bounded s (there i) = let q = whose none full (dummiesOf h) (omega arith) i .2 in (low q, high q)
+      waiting : standing m n < 65536 → (s : ℕ) × Slot n s
+      waiting small = by (ℕ-discrete (standing m n) 0)
+        where
+          by : Dec (standing m n ≡ 0) → (s : ℕ) × Slot n s
+          by (yes e) = absurd (free-none m 1 (dummiesOf h) full (omega arith) n lo hi e)
+          by (no ne) = absurd (omega (arith, core .keyed n (omega arith) (omega (arith, ne)) small))
+
+      held : Holder (h .w) ws w n → (s : ℕ) × Slot n s
+      held o = ⊎-elim (λ e. absurd (omega (arith, e, fact-key h (o .who) c m (Ps (o .who)) (recordOf ws (o .who)) (core .fact (o .who) (o .real) (o .other)) (λ z. omega (arith, e)) .low)))
+          (λ e. (_, worker (o .who) (o .real) (o .other) e)) (o .has)
+
+      mine : (k ≡ n) ⊎ (d ≡ n) → (s : ℕ) × Slot n s
+      mine (inl e) = absurd (omega (arith, e, core .key-held (λ z. omega arith) .low))
+      mine (inr e) = absurd (omega arith)
+
+      taken : standing m n ≡ TAKEN → (s : ℕ) × Slot n s
+      taken t = ⊎-elim (λ i. let o = core .exact n i hi in (_, bucket (o .bucket) (o .real) i (o .has))) (⊎-elim mine held) (core .whole n (omega arith) t)
+
+  -- as many nodes as slots, and one slot stands empty
+  pub some-free : w < h .w → d ≡ 0 → freeNode m 1 (dummiesOf h) ≢ 0
+  some-free lt none full = omega (arith, fewer slots (dummiesOf h) (slot none full) (omega arith) (omega arith))

@@ -18,7 +18,7 @@ use Rattle.register.specs.Events.{Event, nothing, added, removed, adds, removes
 use Rattle.story.specs.Trace.{workerOf, Trace, state, answerAt, eventAt}
 use Rattle.story.specs.Story.{tallied}
 use Rattle.story.proofs.Registers.{Change}
-use Rattle.story.proofs.Distinct.{without, Distinct, was-in, stays-in, still-distinct, gone, one-less, pigeonhole}
+use Rattle.slots.proofs.Distinct.{without, Distinct, was-in, stays-in, still-distinct, gone, one-less, pigeonhole}
 use Rattle.story.proofs.Chain.{on-in, some-on}
 use Rattle.story.proofs.Facts.{Glob, Fact}
 use Rattle.story.proofs.Steps.{tookAt, Turned}

@@ -1,5 +1,4 @@
 pub mod Memory
-pub mod Distinct
 pub mod Chain
 pub mod Facts
 pub mod Stable

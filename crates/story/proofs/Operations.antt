@@ -2,31 +2,32 @@
 -- Assumes nothing.
 use mathlib.Core.Path.{_≡_, refl, sym, subst, _∙_}
 use mathlib.Core.Logic.{_≢_, _⊎_, inl, inr}
-use mathlib.Core.Bool.{Bool, true, false, true≢false, not, _&&_, _||_}
+use mathlib.Core.Bool.{Bool, true, false, not, _&&_, _||_}
 use mathlib.Core.List.{List, List·Memᴰ as In}
-use Prim.Native.Nat.{ℕ, suc, _+_, _*_, _/_, _%_, _^_, _≤_, _<_}
+use Prim.Native.Nat.{ℕ, suc, _+_, _*_, _%_, _^_, _≤_, _<_}
 use native.Mathlib.Omega.{arith}
 use native.Mathlib.Nat.{pow-suc, mod-eq-of-lt}
-use lib.Dec.{eqb, ltb, leb}
+use lib.Dec.{eqb, leb}
 use lib.Pow.{pow-mono}
-use borrow.Author.Tests.{eq-eqb, ne-eqb, le-ltb, ltb-true, leb-true, leb-false}
+use borrow.Author.Tests.{eq-eqb, ne-eqb, le-ltb, leb-true, leb-false}
 use Rattle.choice.specs.Choice.{pick}
 use Rattle.choice.proofs.Auto.{pick-true, pick-false}
 use Rattle.choice.proofs.Cases.{by-bool, by-eq}
 use Rattle.split.specs.Split.{regular, dummy}
 use Rattle.words.specs.Words.{LINK, put, linkTo, isTo}
 use Rattle.words.proofs.Laws.{isTo-true}
-use Rattle.scans.specs.Scans.{lowest}
-use Rattle.scans.proofs.Laws.{lowest-free}
+use Rattle.scans.specs.Scans.{freeNode}
+use Rattle.scans.proofs.Laws.{free-node}
 use Rattle.names.specs.Names.{SZ, F1, B8, I8, I9, D4B, D6, KEY, DUMMY, EXTRA, INSERT, FIND}
 use Rattle.names.specs.declared.Answer.the-variants.{Yes, NoKeyNode}
 use Rattle.header.specs.declared.Header.{Header}
-use Rattle.header.specs.Header.{dummiesOf, nodesOf, doubles}
+use Rattle.header.specs.Header.{dummiesOf, nodesOf}
 use Rattle.header.specs.Rows.{PowerFromTo}
+use Rattle.header.proofs.Laws.{doubles-below}
 use Rattle.record.specs.declared.Worker.{Worker}
 use Rattle.record.specs.Fields.{to, withErrand, withSize, withHeld}
 use Rattle.record.specs.Worker.{heldKey, heldDummy}
-use Rattle.acts.specs.declared.Effect.the-variants.{Take, Aim, Place, Mark, Unlink}
+use Rattle.acts.specs.declared.Effect.the-variants.{TakeKey, Aim, Place, Mark, Unlink}
 use Rattle.acts.specs.declared.Move.the-variants.{Going}
 use Rattle.moves.specs.Moves.{badLink, heldFor, placed, l2, i1, i8, i9, i10, d4a, d4b, d6, countUp, countDown}
 use Rattle.register.specs.Chain.{key, link, standing}
@@ -70,15 +71,6 @@ doubled most s small pm ps lt = rw cut (omega (arith, ps .0), fits, (suc (ps .2 
     fits : s + s ≤ most
     fits = omega (arith, pow-mono {i = suc i} {j = j} below, power, pm .2 .2)
 
-last : (p q : Bool) → p && q ≡ true → q ≡ true
-last true q e = e
-last false q e = absurd (true≢false (sym e))
-
--- a size that is doubled is below M
-below : (h : Header) (size old : ℕ) → doubles h size old ≡ true → size < h .m
-unfolding doubles
-below h size old e = ltb-true size (h .m) (last (ltb old 2147483648 && ltb (h .l) (old / size)) (ltb size (h .m)) e)
-
 -- the node that L2 places
 dummy-for : (x : Worker) → x .errand ≡ DUMMY → heldFor x ≡ x .dummy
 unfolding heldFor
@@ -113,16 +105,16 @@ module _ {h : Header} {ws : List Worker} {Ps Qs : Pasts} {w : ℕ} {c m : List �
   }
 
   -- I1: the key node that is free is taken
-  pub i1-good : Stands z F.i1 → F.At h w c m (Ps w) F.i1 x → Good z false (i1 (seen h x (lowest m (D + 1) N) 0))
+  pub i1-good : Stands z F.i1 → F.At h w c m (Ps w) F.i1 x → Good z false (i1 (seen h x (freeNode m (D + 1) N) 0))
   unfolding i1
   i1-good s b = by-eq (Good z false) n 0
       (λ _. over z false NoKeyNode c m (core z) unmoved (told-neither (λ a. let f : _≡_ {A = ℕ} 0 1 = cc in omega arith) (λ a. let f : _≡_ {A = ℕ} 0 1 = cc in omega arith) (omega arith)))
       takes
     where
       n : ℕ
-      n = lowest m (D + 1) N
+      n = freeNode m (D + 1) N
 
-      takes : n ≢ 0 → Good z false (Going (to SZ (withHeld n x)) (Take n (regular (x .key))))
+      takes : n ≢ 0 → Good z false (Going (to SZ (withHeld n x)) (TakeKey n (regular (x .key))))
       takes ne = record {
         chain = c;
         next = record {
@@ -145,7 +137,7 @@ module _ {h : Header} {ws : List Worker} {Ps Qs : Pasts} {w : ℕ} {c m : List �
       }
         where
           f : (D + 1 ≤ n) × (n ≤ N) × (standing m n ≡ 0)
-          f = lowest-free m (D + 1) N n refl ne
+          f = free-node m (D + 1) N n refl ne (omega arith)
 
           some : 1 ≤ n
           some = omega (arith, f .0)
@@ -157,7 +149,7 @@ module _ {h : Header} {ws : List Worker} {Ps Qs : Pasts} {w : ℕ} {c m : List �
   -- I9: the count, and by the load test the size
   pub i9-good : Stands z F.i9 → F.At h w c m (Ps w) F.i9 x → Good z true (i9 (seen h x 0 0))
   unfolding i9
-  i9-good s b = by-bool (Good z true) (doubles h (x .size) (h .count))
+  i9-good s b = by-bool (Good z true) _
       (λ t. record {
         chain = c;
         next = record {
@@ -171,7 +163,7 @@ module _ {h : Header} {ws : List Worker} {Ps Qs : Pasts} {w : ℕ} {c m : List �
           dum-same = sym (s .dum);
           key-has = s .key-has;
           dum-has = s .dum-has;
-          at = (b .0, b .1, below h (x .size) (h .count) t);
+          at = (b .0, b .1, doubles-below h (x .size) _ t);
         };
         change = unmoved;
         kind = refl;

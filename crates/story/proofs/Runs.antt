@@ -22,7 +22,7 @@ use Rattle.header.proofs.Rows.{limits}
 use Rattle.prepare.specs.declared.Limits.{Limits}
 use Rattle.prepare.specs.Prepare.{Kept, freshHeader, prepared}
 use Rattle.acts.specs.declared.Effect.{Effect}
-use Rattle.acts.specs.declared.Effect.the-variants.{Nothing, Take, Free, Aim, Place, Mark, Unlink, Store, Count as Counts, Size}
+use Rattle.acts.specs.declared.Effect.the-variants.{Nothing, TakeKey, TakeDummy, Free, Aim, Place, Mark, Unlink, Store, Count as Counts, Size}
 use Rattle.acts.specs.declared.Move.{Move}
 use Rattle.acts.specs.declared.Move.the-variants.{Damaged, Going as GoesOn, Ended}
 use Rattle.moves.specs.Moves.{decided}
@@ -72,7 +72,8 @@ sees t ns bs = ap (λ (v : ℕ). record { header = t .header; worker = t .worker
 -- ---- what it stores keeps the laws
 effect-keeps : (M : ℕ) (bs : List ℕ) → M ≤ length bs → (e : Effect) → Keeps M (storedBy e) (bucket bs) (bucket (bucketsAfter e bs)) × (length (bucketsAfter e bs) ≡ length bs)
 effect-keeps M bs l Nothing = (λ i b. refl, refl)
-effect-keeps M bs l (Take n split) = (λ i b. refl, refl)
+effect-keeps M bs l (TakeKey n split) = (λ i b. refl, refl)
+effect-keeps M bs l (TakeDummy n split) = (λ i b. refl, refl)
 effect-keeps M bs l (Free n) = (λ i b. refl, refl)
 effect-keeps M bs l (Aim n next) = (λ i b. refl, refl)
 effect-keeps M bs l (Place n next prev) = (λ i b. refl, refl)

@@ -6,7 +6,7 @@ use Rattle.words.specs.Words.{Tables, tables, SPLIT-KEY, LINK, STANDING, TAKEN,
 use Rattle.header.specs.declared.Header.{Header}
 use Rattle.header.specs.Header.{sized, counted}
 use Rattle.acts.specs.declared.Effect.{Effect}
-use Rattle.acts.specs.declared.Effect.the-variants.{Nothing, Take, Free, Aim, Place, Mark, Unlink, Store, Count, Size}
+use Rattle.acts.specs.declared.Effect.the-variants.{Nothing, TakeKey, TakeDummy, Free, Aim, Place, Mark, Unlink, Store, Count, Size}
 
 -- what is to be stored in the buckets: nothing, or a node in a bucket
 pub data Stores : Type 0 where
@@ -16,7 +16,8 @@ pub data Stores : Type 0 where
 -- the step reads, and writes nothing
 abbrev pub isNothing : Effect → Bool
 isNothing Nothing = true
-isNothing (Take n split) = false
+isNothing (TakeKey n split) = false
+isNothing (TakeDummy n split) = false
 isNothing (Free n) = false
 isNothing (Aim n next) = false
 isNothing (Place n next prev) = false
@@ -26,9 +27,14 @@ isNothing (Store b n) = false
 isNothing (Count v) = false
 isNothing (Size v) = false
 
+-- node n is taken, with its split key
+abbrev pub taken : ℕ → ℕ → List ℕ → List ℕ
+taken n split ns = put (put ns n SPLIT-KEY split) n STANDING TAKEN
+
 abbrev pub nodesAfter : Effect → List ℕ → List ℕ
 nodesAfter Nothing ns = ns
-nodesAfter (Take n split) ns = put (put ns n SPLIT-KEY split) n STANDING TAKEN
+nodesAfter (TakeKey n split) ns = taken n split ns
+nodesAfter (TakeDummy n split) ns = taken n split ns
 nodesAfter (Free n) ns = put ns n STANDING 0
 nodesAfter (Aim n next) ns = put ns n LINK (linkTo next false)
 nodesAfter (Place n next prev) ns = put (put ns n LINK (linkTo next false)) prev LINK (linkTo n false)
@@ -41,7 +47,8 @@ nodesAfter (Size v) ns = ns
 -- a bucket is stored by B8 alone
 abbrev pub storedBy : Effect → Stores
 storedBy Nothing = none
-storedBy (Take n split) = none
+storedBy (TakeKey n split) = none
+storedBy (TakeDummy n split) = none
 storedBy (Free n) = none
 storedBy (Aim n next) = none
 storedBy (Place n next prev) = none
@@ -53,7 +60,8 @@ storedBy (Size v) = none
 
 abbrev pub headerAfter : Effect → Header → Header
 headerAfter Nothing h = h
-headerAfter (Take n split) h = h
+headerAfter (TakeKey n split) h = h
+headerAfter (TakeDummy n split) h = h
 headerAfter (Free n) h = h
 headerAfter (Aim n next) h = h
 headerAfter (Place n next prev) h = h

@@ -2,7 +2,7 @@
 ghost use mathlib.Core.Path.{_≡_};
 ghost use Rattle.words.specs.Words.{tables, left, LINK, put, linkWord, linkTo};
 ghost use Rattle.acts.specs.Acts.{handedBack};
-ghost use Rattle.writes.specs.Writes.{isNothing, tablesAfter, headerAfter};
+ghost use Rattle.writes.specs.Writes.{isNothing, taken, tablesAfter, headerAfter};
 ghost use Rattle.writes.specs.Carry.{tick, onward, closedBy, ending, carriedBy};
 use acts::Called;
 use acts::Effect;
@@ -38,6 +38,14 @@ fn aim(nodes: &mut [u32], n: u32, next: u32, marked: bool)
     words::put(nodes, n, words::LINK, link_to(next, marked));
 }
 
+// Node n is taken, with its split key.
+fn take(nodes: &mut [u32], n: u32, split: u32)
+    ensures { λ _. ⌜ now (nodes .exit) ≡ taken n split (now (nodes .entry)) ⌝ }
+{
+    words::put(nodes, n, words::SPLIT_KEY, split);
+    words::put(nodes, n, words::STANDING, words::TAKEN);
+}
+
 // The step writes nothing, as most do.
 fn nothing(effect: Effect) -> bool
     ensures { λ r. ⌜ r ≡ isNothing effect ⌝ }
@@ -54,9 +62,11 @@ fn write(effect: Effect, nodes: &mut [u32], buckets: &mut [u32])
 {
     match effect {
         Effect::Nothing => {}
-        Effect::Take { node, split } => {
-            words::put(nodes, node, words::SPLIT_KEY, split);
-            words::put(nodes, node, words::STANDING, words::TAKEN);
+        Effect::TakeKey { node, split } => {
+            take(nodes, node, split);
+        }
+        Effect::TakeDummy { node, split } => {
+            take(nodes, node, split);
         }
         Effect::Free { node } => {
             words::put(nodes, node, words::STANDING, 0);
@@ -103,7 +113,8 @@ fn written(effect: Effect, header: Header) -> Header
             h
         }
         Effect::Nothing => h,
-        Effect::Take { node: _, split: _ } => h,
+        Effect::TakeKey { node: _, split: _ } => h,
+        Effect::TakeDummy { node: _, split: _ } => h,
         Effect::Free { node: _ } => h,
         Effect::Aim { node: _, next: _ } => h,
         Effect::Place {

@@ -7,7 +7,7 @@ use Prim.Native.Nat.{ℕ}
 use denote.Ref.{now}
 use borrow.Author.Needs.{needs}
 use Rattle.acts.specs.declared.Effect.{Effect}
-use Rattle.acts.specs.declared.Effect.the-variants.{Nothing, Take, Free, Aim, Place, Mark, Unlink, Store, Count, Size}
+use Rattle.acts.specs.declared.Effect.the-variants.{Nothing, TakeKey, TakeDummy, Free, Aim, Place, Mark, Unlink, Store, Count, Size}
 use Rattle.words.specs.Words.{Tables, tables}
 use Rattle.writes.specs.Writes.{isNothing, tablesAfter}
 use Rattle.writes.proofs.carry.Statement.{statement}
@@ -15,7 +15,8 @@ use Rattle.writes.proofs.carry.Tie as tie
 
 unwritten : (e : Effect) (ts : Tables) → isNothing e ≡ true → tablesAfter e ts ≡ ts
 unwritten Nothing ts t = refl
-unwritten (Take n split) ts t = absurd (false≢true t)
+unwritten (TakeKey n split) ts t = absurd (false≢true t)
+unwritten (TakeDummy n split) ts t = absurd (false≢true t)
 unwritten (Free n) ts t = absurd (false≢true t)
 unwritten (Aim n next) ts t = absurd (false≢true t)
 unwritten (Place n next prev) ts t = absurd (false≢true t)

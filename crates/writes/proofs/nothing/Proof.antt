@@ -9,17 +9,18 @@ use denote.Enum.Declared
 use types.Run.{OneOf, miss}
 use Rattle.acts.proofs.Effect.{the-type}
 use Rattle.acts.specs.declared.Effect.{Effect}
-use Rattle.acts.specs.declared.Effect.the-variants.{Nothing, Take, Free, Aim, Place, Mark, Unlink, Store, Count, Size}
+use Rattle.acts.specs.declared.Effect.the-variants.{Nothing, TakeKey, TakeDummy, Free, Aim, Place, Mark, Unlink, Store, Count, Size}
 use Rattle.writes.specs.Writes.{isNothing}
 use Rattle.writes.proofs.nothing.Statement.{statement}
 use Rattle.writes.proofs.nothing.Tie as tie
 
 abbrev others : List ℕ
-others = 1 ∷ 2 ∷ 3 ∷ 4 ∷ 5 ∷ 6 ∷ 7 ∷ 8 ∷ 9 ∷ []
+others = 1 ∷ 2 ∷ 3 ∷ 4 ∷ 5 ∷ 6 ∷ 7 ∷ 8 ∷ 9 ∷ 10 ∷ []
 
 other : (e : Effect) → OneOf others (Declared.tagOf the-type e) → false ≡ isNothing e
 other Nothing k = absurd (miss others 0 tt k)
-other (Take n split) k = refl
+other (TakeKey n split) k = refl
+other (TakeDummy n split) k = refl
 other (Free n) k = refl
 other (Aim n next) k = refl
 other (Place n next prev) k = refl

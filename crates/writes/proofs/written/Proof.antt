@@ -34,6 +34,9 @@ enum-told-7 c = search needs
 enum-told-8 : tie.Need-enum-told-8
 enum-told-8 c = search needs
 
+enum-told-9 : tie.Need-enum-told-9
+enum-told-9 c = search needs
+
 returns : tie.Need-returns
 returns c = rw (c .before .effect .given .1)
 
@@ -64,6 +67,9 @@ returns-9 c = search needs
 returns-10 : tie.Need-returns-10
 returns-10 c = search needs
 
+returns-11 : tie.Need-returns-11
+returns-11 c = search needs
+
 pub written-spec : {M : Type 1} → statement M
 written-spec =
     tie.close
@@ -78,6 +84,7 @@ written-spec =
     enum-told-6
     enum-told-7
     enum-told-8
+    enum-told-9
     returns
     returns-2
     returns-3
@@ -87,4 +94,5 @@ written-spec =
     returns-7
     returns-8
     returns-9
-    returns-10)
+    returns-10
+    returns-11)

@@ -12,14 +12,14 @@ use Rattle.register.proofs.Turn.word_for.Tie as tie
 add-dummies : tie.Need-add-dummies
 add-dummies c = search needs
 
-add-lowest : tie.Need-add-lowest
-add-lowest c = search needs
+add-free-node : tie.Need-add-free-node
+add-free-node c = search needs
 
-add-lowest-2 : tie.Need-add-lowest-2
-add-lowest-2 c = search needs
+add-free-node-2 : tie.Need-add-free-node-2
+add-free-node-2 c = search needs
 
-lowest-requires : tie.Need-lowest-requires
-lowest-requires c κs = tt
+free-node-requires : tie.Need-free-node-requires
+free-node-requires c κs = tt
 
 bucket-requires : tie.Need-bucket-requires
 bucket-requires c κs = tt
@@ -30,8 +30,8 @@ parent-requires c κs = tt
 bucket-requires-2 : tie.Need-bucket-requires-2
 bucket-requires-2 c κs = tt
 
-lowest-requires-2 : tie.Need-lowest-requires-2
-lowest-requires-2 c κs = tt
+free-node-requires-2 : tie.Need-free-node-requires-2
+free-node-requires-2 c κs = tt
 
 word-requires : tie.Need-word-requires
 word-requires c κs = tt
@@ -56,7 +56,7 @@ word-requires-7 c κs = tt
 
 returns : tie.Need-returns
 unfolding wordAt wordGiven askedAt pick
-returns c = c .lowest .ensures ∙ (here _ _ 1 (c .before .before .match .keys1))
+returns c = c .free-node .ensures ∙ (here _ _ 1 (c .before .before .match .keys1))
 
 returns-2 : tie.Need-returns-2
 unfolding wordAt wordGiven askedAt pick
@@ -68,7 +68,7 @@ returns-3 c = c .bucket2 .ensures ∙ rw (c .before .parent .ensures) (here _ _ 
 
 returns-4 : tie.Need-returns-4
 unfolding wordAt wordGiven askedAt pick
-returns-4 c = c .lowest2 .ensures ∙ (here _ _ 5 (c .before .match .keys4))
+returns-4 c = c .free-node2 .ensures ∙ (here _ _ 5 (c .before .match .keys4))
 
 returns-5 : tie.Need-returns-5
 unfolding wordAt wordGiven askedAt pick
@@ -121,13 +121,13 @@ word-for-spec =
     tie.close
     (tie.spec
     add-dummies
-    add-lowest
-    add-lowest-2
-    lowest-requires
+    add-free-node
+    add-free-node-2
+    free-node-requires
     bucket-requires
     parent-requires
     bucket-requires-2
-    lowest-requires-2
+    free-node-requires-2
     word-requires
     word-requires-2
     word-requires-3
