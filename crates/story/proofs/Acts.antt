@@ -22,7 +22,7 @@ use Rattle.names.specs.Names.{KEY-LIMIT}
 use Rattle.register.specs.Chain.{key, link, standing, after, mark}
 use Rattle.story.proofs.Memory
 use Rattle.story.proofs.Chain.{putAfter, cutAfter, put-new, put-old, put-only, cut-only, cut-self, some-on, succ-in}
-use Rattle.story.proofs.Facts.{Held, Glob, OfBucket, Later}
+use Rattle.story.proofs.Facts.{Held, Nodes, OfBucket, Later}
 use Rattle.story.proofs.Core.{Pasts, Core, shift}
 use Rattle.story.proofs.Effects.{linked, linked-later, kept, unlinked, unlinked-later, marked, marked-later, penned, penned-later, took, took-later, freed, freed-later}
 use Rattle.story.proofs.Registers.{Same, Added, Removed, dummy-is-even, unchanged, linked-same, linked-adds, marked-removes}
@@ -43,8 +43,8 @@ module _ {h : Header} {ws : List Worker} {Ps : Pasts} {w k d : ℕ} {c m : List 
   abbrev N : ℕ
   N = nodesOf h
 
-  g₀ : Glob D N c m
-  g₀ = core .glob
+  g₀ : Nodes D N c m
+  g₀ = core .of-nodes
 
   in-table : (n : ℕ) → n ≤ N → 3 * n ≤ length m
   in-table n b = omega (arith, g₀ .size)
@@ -60,7 +60,7 @@ module _ {h : Header} {ws : List Worker} {Ps : Pasts} {w k d : ℕ} {c m : List 
 
   -- the node in hand is not the other one in hand
   two : k ≢ 0 → d ≢ 0 → d ≢ k
-  two a b e = omega (arith, core .key-held a .low, core .dum-held b .high)
+  two a b e = omega (arith, core .key-held a .low, core .dummy-held b .high)
 
   -- ---- I1, B4: a free node is taken
   module _ (n split : ℕ) (free : standing m n ≡ 0) (some : 1 ≤ n) (fits : n ≤ N) where
@@ -88,7 +88,7 @@ module _ {h : Header} {ws : List Worker} {Ps : Pasts} {w k d : ℕ} {c m : List 
     pub take-key-is : key m₂ n ≡ split
     take-key-is = Memory.key-of-standing m₁ n TAKEN n ∙ Memory.key-same m n split some (in-table n fits)
 
-    g′ : Glob D N c m₂
+    g′ : Nodes D N c m₂
     g′ = took D N c m m₂ n g₀ free size ek es el sh
 
     pub take-later : (v : ℕ) → Later D N v 0 c m c m₂
@@ -123,13 +123,13 @@ module _ {h : Header} {ws : List Worker} {Ps : Pasts} {w k d : ℕ} {c m : List 
 
     pub take-key : k ≡ 0 → D < n → Core h ws Ps w n d c m₂ β
     take-key z low = shift core {g = 0} (record {
-      glob = g′;
+      of-nodes = g′;
       later = λ v ne t. take-later v;
       touch = inl refl;
       key-held = λ _. take-held D N low fits;
-      dum-held = λ y. take-later w .held 0 D d y (omega arith) (core .dum-held y);
+      dummy-held = λ y. take-later w .held 0 D d y (omega arith) (core .dummy-held y);
       key-from = inr (inr free);
-      dum-from = inr (inl refl);
+      dummy-from = inr (inl refl);
       was = λ i f t. ⊎-elim inl (λ e. inr (inl e)) (was i t (ℕ-discrete i n));
       stays = λ i t j. j;
       own = λ i t o. ⊎-elim (λ e. lost i t (sym e ∙ z)) (λ e. inr (inr e)) o;
@@ -141,13 +141,13 @@ module _ {h : Header} {ws : List Worker} {Ps : Pasts} {w k d : ℕ} {c m : List 
 
     pub take-dummy : d ≡ 0 → n ≤ D → Core h ws Ps w k n c m₂ β
     take-dummy z high = shift core {g = 0} (record {
-      glob = g′;
+      of-nodes = g′;
       later = λ v ne t. take-later v;
       touch = inl refl;
       key-held = λ y. take-later w .held D N k y (omega arith) (core .key-held y);
-      dum-held = λ _. take-held 0 D some high;
+      dummy-held = λ _. take-held 0 D some high;
       key-from = inr (inl refl);
-      dum-from = inr (inr free);
+      dummy-from = inr (inr free);
       was = λ i f t. ⊎-elim inl (λ e. inr (inr e)) (was i t (ℕ-discrete i n));
       stays = λ i t j. j;
       own = λ i t o. ⊎-elim (λ e. inr (inl e)) (λ e. lost i t (sym e ∙ z)) o;
@@ -174,7 +174,7 @@ module _ {h : Header} {ws : List Worker} {Ps : Pasts} {w k d : ℕ} {c m : List 
     fn : standing f₁ n ≡ 0
     fn = Memory.standing-same m n 0 (omega (arith, hh .low)) (in-table n (omega (arith, hh .high)))
 
-    fg : Glob D N c f₁
+    fg : Nodes D N c f₁
     fg = freed D N lo hi c m f₁ n g₀ hh (put-length m n STANDING 0) fk fs fl fn
 
     pub free-later : (v : ℕ) → Later D N v n c m c f₁
@@ -197,13 +197,13 @@ module _ {h : Header} {ws : List Worker} {Ps : Pasts} {w k d : ℕ} {c m : List 
     freeing : (k′ d′ : ℕ) → (n ≡ k) ⊎ (n ≡ d) → (k′ ≢ 0 → (k′ ≡ k) × (k′ ≢ n)) → (d′ ≢ 0 → (d′ ≡ d) × (d′ ≢ n)) → Dec (k′ ≡ 0) → Dec (d′ ≡ 0)
         → ((i : ℕ) → i ≢ n → (k ≡ i) ⊎ (d ≡ i) → (k′ ≡ i) ⊎ (d′ ≡ i)) → Core h ws Ps w k′ d′ c f₁ β
     freeing k′ d′ touch ke de k0 d0 own = shift core {g = n} (record {
-      glob = fg;
+      of-nodes = fg;
       later = λ v ne t. free-later v;
       touch = inr touch;
       key-held = λ y. free-later w .held D N k′ (ke y .1) (omega arith) (rw (ke y .0) (core .key-held (λ z. y (ke y .0 ∙ z))));
-      dum-held = λ y. free-later w .held 0 D d′ (de y .1) (omega arith) (rw (de y .0) (core .dum-held (λ z. y (de y .0 ∙ z))));
+      dummy-held = λ y. free-later w .held 0 D d′ (de y .1) (omega arith) (rw (de y .0) (core .dummy-held (λ z. y (de y .0 ∙ z))));
       key-from = from k0 ke;
-      dum-from = from d0 de;
+      dummy-from = from d0 de;
       was = λ i f t. inl (sym (fs i (λ e. not-free i t e)) ∙ t);
       stays = λ i t j. j;
       own = λ i t o. inr (own i (λ e. not-free i t e) o);
@@ -227,7 +227,7 @@ module _ {h : Header} {ws : List Worker} {Ps : Pasts} {w k d : ℕ} {c m : List 
     where
       go : Dec (d ≡ 0) → Core h ws Ps w k 0 c (put m d STANDING 0) β
       go (yes e) = rw (e, put-nothing m STANDING 0) (rw e at core)
-      go (no z) = freeing d 0 D (core .dum-held z) (omega arith) k 0 (inr refl) (λ y. (refl, λ e. two y z (sym e))) (λ y. absurd (y refl)) (ℕ-discrete k 0) (yes refl)
+      go (no z) = freeing d 0 D (core .dummy-held z) (omega arith) k 0 (inr refl) (λ y. (refl, λ e. two y z (sym e))) (λ y. absurd (y refl)) (ℕ-discrete k 0) (yes refl)
           (λ i ne o. ⊎-elim inl (λ e. absurd (ne (sym e))) o)
 
   -- ---- L2 that fails: the held node's link is written
@@ -250,7 +250,7 @@ module _ {h : Header} {ws : List Worker} {Ps : Pasts} {w k d : ℕ} {c m : List 
     an : link a₁ n ≡ cur * 2
     an = Memory.link-same m n (linkTo cur false) (omega (arith, hh .low)) (in-table n (omega (arith, hh .high))) ∙ unmarked cur fits
 
-    ag : Glob D N c a₁
+    ag : Nodes D N c a₁
     ag = penned D N lo hi c m a₁ n g₀ hh a-length ak ast al (rw an (omega arith))
 
     pub aim-later : (v : ℕ) → Later D N v n c m c a₁
@@ -264,13 +264,13 @@ module _ {h : Header} {ws : List Worker} {Ps : Pasts} {w k d : ℕ} {c m : List 
 
     pub aim : (n ≡ k) ⊎ (n ≡ d) → Core h ws Ps w k d c a₁ β
     aim touch = shift core {g = n} (record {
-      glob = ag;
+      of-nodes = ag;
       later = λ v ne t. aim-later v;
       touch = inr touch;
       key-held = λ y. let o = core .key-held y in record { low = o .low; high = o .high; is = ast k ∙ o .is; off = o .off };
-      dum-held = λ y. let o = core .dum-held y in record { low = o .low; high = o .high; is = ast d ∙ o .is; off = o .off };
+      dummy-held = λ y. let o = core .dummy-held y in record { low = o .low; high = o .high; is = ast d ∙ o .is; off = o .off };
       key-from = inr (inl refl);
-      dum-from = inr (inl refl);
+      dummy-from = inr (inl refl);
       was = λ i f t. inl (sym (ast i) ∙ t);
       stays = λ i t j. j;
       own = λ i t o. inr o;
@@ -310,8 +310,8 @@ module _ {h : Header} {ws : List Worker} {Ps : Pasts} {w k d : ℕ} {c m : List 
       pn : link p₁ n ≡ cur * 2
       pn = Memory.link-other a₁ prev (linkTo n false) n (λ q. hh .off (rw (← q) at i)) ∙ an
 
-      pub place-glob : Glob D N (putAfter i n) p₁
-      place-glob = linked D N lo hi c m p₁ prev n cur most g₀ hh bound i p-length pk ps pl pp pn was has low high even odd
+      pub place-nodes : Nodes D N (putAfter i n) p₁
+      place-nodes = linked D N lo hi c m p₁ prev n cur most g₀ hh bound i p-length pk ps pl pp pn was has low high even odd
 
       pub place-later : (v : ℕ) → Later D N v n c m (putAfter i n) p₁
       place-later = linked-later D N lo hi c m p₁ prev n cur most g₀ hh bound i p-length pk ps pl pp pn was has low high even odd
@@ -320,10 +320,10 @@ module _ {h : Header} {ws : List Worker} {Ps : Pasts} {w k d : ℕ} {c m : List 
       place-key-is = pk
 
       pub place-same : (j : ℕ) → regular j ≢ most → Same m p₁ j
-      place-same = linked-same D N c m p₁ prev n cur most g₀ i place-glob pk pl pp pn was (hh .off) has
+      place-same = linked-same D N c m p₁ prev n cur most g₀ i place-nodes pk pl pp pn was (hh .off) has
 
       pub place-adds : (x : ℕ) → most ≡ regular x → x ≤ KEY-LIMIT → Added m p₁ x
-      place-adds x e b = linked-adds D N c m p₁ prev n cur most g₀ i place-glob pk pl pp pn was (hh .off) has x e b low high
+      place-adds x e b = linked-adds D N c m p₁ prev n cur most g₀ i place-nodes pk pl pp pn was (hh .off) has x e b low high
 
       place-exact : (j : ℕ) → In j (putAfter i n) → j ≤ D → Dec (j ≡ n) → OfBucket (h .m) (key p₁ j)
       place-exact j o b (yes e) = rw (pk j, e, has) (root (rw e at b))
@@ -332,13 +332,13 @@ module _ {h : Header} {ws : List Worker} {Ps : Pasts} {w k d : ℕ} {c m : List 
       placing : (k′ d′ : ℕ) → (n ≡ k) ⊎ (n ≡ d) → (k′ ≢ 0 → (k′ ≡ k) × (k′ ≢ n)) → (d′ ≢ 0 → (d′ ≡ d) × (d′ ≢ n)) → Dec (k′ ≡ 0) → Dec (d′ ≡ 0)
           → ((j : ℕ) → (k ≡ j) ⊎ (d ≡ j) → (n ≡ j) ⊎ ((k′ ≡ j) ⊎ (d′ ≡ j))) → Core h ws Ps w k′ d′ (putAfter i n) p₁ β
       placing k′ d′ touch ke de k0 d0 own = shift core {g = n} (record {
-        glob = place-glob;
+        of-nodes = place-nodes;
         later = λ v ne t. place-later v;
         touch = inr touch;
         key-held = λ y. place-later w .held D N k′ (ke y .1) (omega arith) (rw (ke y .0) (core .key-held (λ z. y (ke y .0 ∙ z))));
-        dum-held = λ y. place-later w .held 0 D d′ (de y .1) (omega arith) (rw (de y .0) (core .dum-held (λ z. y (de y .0 ∙ z))));
+        dummy-held = λ y. place-later w .held 0 D d′ (de y .1) (omega arith) (rw (de y .0) (core .dummy-held (λ z. y (de y .0 ∙ z))));
         key-from = from k0 ke;
-        dum-from = from d0 de;
+        dummy-from = from d0 de;
         was = λ j f t. inl (sym (ps j) ∙ t);
         stays = λ j t o. put-old i n o;
         own = λ j t o. ⊎-elim (λ e. inl (Memᴰ·cast (sym e) (put-new i n))) inr (own j o);
@@ -378,7 +378,7 @@ module _ {h : Header} {ws : List Worker} {Ps : Pasts} {w k d : ℕ} {c m : List 
         Memory.link-same m cur (linkTo nx true) (on-some cur i) (in-table cur (g₀ .fits cur i)) ∙
         linkTo-marked nx (omega (arith, nx-fits, few-nodes h (core .limits)))
 
-    kg : Glob D N c k₁
+    kg : Nodes D N c k₁
     kg = marked D N c m k₁ cur nx g₀ i (put-length m cur LINK (linkTo nx true)) kk ks kl mark-link was sort
 
     pub mark-later : (v : ℕ) → Later D N v 0 c m c k₁
@@ -389,13 +389,13 @@ module _ {h : Header} {ws : List Worker} {Ps : Pasts} {w k d : ℕ} {c m : List 
 
     pub marks : Core h ws Ps w k d c k₁ β
     marks = shift core {g = 0} (record {
-      glob = kg;
+      of-nodes = kg;
       later = λ v ne t. mark-later v;
       touch = inl refl;
       key-held = λ y. mark-later w .held D N k y (omega arith) (core .key-held y);
-      dum-held = λ y. mark-later w .held 0 D d y (omega arith) (core .dum-held y);
+      dummy-held = λ y. mark-later w .held 0 D d y (omega arith) (core .dummy-held y);
       key-from = inr (inl refl);
-      dum-from = inr (inl refl);
+      dummy-from = inr (inl refl);
       was = λ j f t. inl (sym (ks j) ∙ t);
       stays = λ j t o. o;
       own = λ j t o. inr o;
@@ -440,7 +440,7 @@ module _ {h : Header} {ws : List Worker} {Ps : Pasts} {w k d : ℕ} {c m : List 
     up : link u₁ prev ≡ nx * 2
     up = Memory.link-of-standing u₀ cur (h .busy) prev ∙ Memory.link-same m prev (linkTo nx false) (on-some prev i) (in-table prev (g₀ .fits prev i)) ∙ unmarked nx u-fits
 
-    ug : Glob D N (cutAfter i) u₁
+    ug : Nodes D N (cutAfter i) u₁
     ug = unlinked D N c m u₁ prev cur nx (h .busy) g₀ i u-length uk us uc ul up was some dead busy-small
 
     pub unlink-later : (v : ℕ) → bit v (h .busy) ≡ 1 → Later D N v 0 c m (cutAfter i) u₁
@@ -471,13 +471,13 @@ module _ {h : Header} {ws : List Worker} {Ps : Pasts} {w k d : ℕ} {c m : List 
 
     pub unlinks : Core h ws Ps w k d (cutAfter i) u₁ β
     unlinks = shift core {g = 0} (record {
-      glob = ug;
+      of-nodes = ug;
       later = λ v ne t. unlink-later v t;
       touch = inl refl;
       key-held = λ y. still D N k (core .key-held y);
-      dum-held = λ y. still 0 D d (core .dum-held y);
+      dummy-held = λ y. still 0 D d (core .dummy-held y);
       key-from = inr (inl refl);
-      dum-from = inr (inl refl);
+      dummy-from = inr (inl refl);
       was = λ j f t. inl (sym (us j (not-cur j t)) ∙ t);
       stays = λ j t o. u-kept j o (not-cur j t);
       own = λ j t o. inr o;

@@ -283,8 +283,8 @@ module _ (r : Trace) (w kind k b e : ℕ) (o : Operation r w kind k b e) (ec : r
   not-there : {n v : ℕ} (p : Saw r e w n 0 v) → v < regular k → Registered (state r (p .call) .nodes) k → ⊥
   not-there {n} p l =
       let g = good r (p .call) in
-      gap (dummiesOf (state r (p .call) .header)) (nodesOf (state r (p .call) .header)) (g .chain) (state r (p .call) .nodes) (g .inv .glob) n k
-      (on-in (state r (p .call) .nodes) (g .chain) (g .inv .glob .walk) (p .on)) (rw (p .key-is) l) (λ ne. absurd (ne (rw (p .link-is) (omega arith))))
+      gap (dummiesOf (state r (p .call) .header)) (nodesOf (state r (p .call) .header)) (g .chain) (state r (p .call) .nodes) (g .inv .of-nodes) n k
+      (on-in (state r (p .call) .nodes) (g .chain) (g .inv .of-nodes .walk) (p .on)) (rw (p .key-is) l) (λ ne. absurd (ne (rw (p .link-is) (omega arith))))
 
   -- the moment is this call, or an own call before
   module _ (d : End r e w) (z : effects r w e ≡ 0) where

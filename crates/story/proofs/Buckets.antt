@@ -35,7 +35,7 @@ use Rattle.story.specs.Trace.{ticked}
 use Rattle.story.proofs.Chain.{some-on}
 use Rattle.story.proofs.Registers.{unmoved}
 use Rattle.story.proofs.Facts as F
-use Rattle.story.proofs.Facts.{Glob, forKey, forDummy}
+use Rattle.story.proofs.Facts.{Nodes, forKey, forDummy}
 use Rattle.story.proofs.Stable as st
 use Rattle.story.proofs.Core.{Pasts}
 use Rattle.story.proofs.Acts.{take-dummy, take-later, take-same, take-key-is}
@@ -53,8 +53,8 @@ module _ {h : Header} {ws : List Worker} {Ps Qs : Pasts} {w : ℕ} {c m : List �
   abbrev D : ℕ
   D = dummiesOf h
 
-  g₀ : Glob D N c m
-  g₀ = z .inv .glob
+  g₀ : Nodes D N c m
+  g₀ = z .inv .of-nodes
 
   abbrev G : Move → Type 0
   G = Good z false
@@ -65,7 +65,7 @@ module _ {h : Header} {ws : List Worker} {Ps Qs : Pasts} {w : ℕ} {c m : List �
   -- SZ: the size is a power of two, so the key's bucket comes before the key
   pub sz-good : Stands z F.sz → F.At h w c m (Ps w) F.sz x → G (sz (seen h x 0 0))
   unfolding sz
-  sz-good s b = looks z false F.sz s (s .dum) F.tb (to TB (withWanted (x .key % h .size) x)) refl
+  sz-good s b = looks z false F.sz s (s .dummy-hand) F.tb (to TB (withWanted (x .key % h .size) x)) refl
       (s .sane .0, s .sane .1, s .sane .2, s .sane .3, fits, s .sane .5, s .sane .6, s .sane .7, s .sane .8, s .sane .9, s .sane .10, s .sane .11)
       (sym (s .hand)) refl refl refl (b, below) refl
     where
@@ -88,11 +88,11 @@ module _ {h : Header} {ws : List Worker} {Ps Qs : Pasts} {w : ℕ} {c m : List �
   unfolding tb pick
   tb-good s b = past G _ _ (in-range (x .wanted) (s .sane .4) (ℕ-discrete (β (x .wanted)) 0))
       (by-eq G (β (x .wanted)) 0
-      (λ e. looks z false F.tb s (s .dum) F.b2 (to B2 (withMaking (x .wanted) x)) refl
+      (λ e. looks z false F.tb s (s .dummy-hand) F.b2 (to B2 (withMaking (x .wanted) x)) refl
       (s .sane .0, s .sane .1, s .sane .2, s .sane .3, s .sane .4, s .sane .4, s .sane .6, s .sane .7, s .sane .8, s .sane .9, s .sane .10, s .sane .11)
       (sym (s .hand)) refl refl refl (b .0, record { below = b .1; some = not-first (x .wanted) e; path = on-path-self (x .wanted) }) refl)
       (λ ne. let o = z .inv .root (x .wanted) (s .sane .4) ne in
-      looks z false F.tb s (s .dum) F.f1 (to F1 (withStart (β (x .wanted)) (withErrand KEY x))) refl
+      looks z false F.tb s (s .dummy-hand) F.f1 (to F1 (withStart (β (x .wanted)) (withErrand KEY x))) refl
       (s .sane .0, s .sane .1, omega arith, s .sane .3, s .sane .4, s .sane .5, g₀ .fits (β (x .wanted)) (o .on), s .sane .7, s .sane .8, s .sane .9, s .sane .10, s .sane .11)
       (sym (s .hand)) refl refl refl (forKey refl (b .0), record { on = o .on; sort = o .sort; low = rw (o .has) (b .1) }) refl))
 
@@ -101,11 +101,11 @@ module _ {h : Header} {ws : List Worker} {Ps Qs : Pasts} {w : ℕ} {c m : List �
   unfolding b2
   b2-good s b = past G _ _ (in-range up fits (ℕ-discrete (β up) 0))
       (by-eq G (β up) 0
-      (λ e. looks z false F.b2 s (s .dum) F.b2 (withMaking up x) (s .place)
+      (λ e. looks z false F.b2 s (s .dummy-hand) F.b2 (withMaking up x) (s .place)
       (s .sane .0, s .sane .1, s .sane .2, s .sane .3, s .sane .4, fits, s .sane .6, s .sane .7, s .sane .8, s .sane .9, s .sane .10, s .sane .11)
       (sym (s .hand)) refl refl refl (b .0, record { below = b .1 .below; some = not-first up e; path = on-path-up (x .wanted) (x .making) (b .1 .path) }) refl)
       (λ ne. let o = z .inv .root up fits ne in
-      looks z false F.b2 s (s .dum) F.b4 (to B4 (withStart (β up) x)) refl
+      looks z false F.b2 s (s .dummy-hand) F.b4 (to B4 (withStart (β up) x)) refl
       (s .sane .0, s .sane .1, s .sane .2, s .sane .3, s .sane .4, s .sane .5, g₀ .fits (β up) (o .on), s .sane .7, s .sane .8, s .sane .9, s .sane .10, s .sane .11)
       (sym (s .hand)) refl refl refl (b .0, b .1, record { on = o .on; sort = o .sort; low = rw (o .has) first }) refl))
     where
@@ -121,7 +121,7 @@ module _ {h : Header} {ws : List Worker} {Ps Qs : Pasts} {w : ℕ} {c m : List �
   -- B4: some dummy node is free, and it is taken
   pub b4-good : Stands z F.b4 → F.At h w c m (Ps w) F.b4 x → G (b4 (seen h x (freeNode m 1 D) 0))
   unfolding b4 pick
-  b4-good s b = by-eq G n 0 (λ e. absurd (some-free (core z) (z .lt) (s .dum) e)) takes
+  b4-good s b = by-eq G n 0 (λ e. absurd (some-free (core z) (z .lt) (s .dummy-hand) e)) takes
     where
       n : ℕ
       n = freeNode m 1 D
@@ -132,14 +132,14 @@ module _ {h : Header} {ws : List Worker} {Ps Qs : Pasts} {w : ℕ} {c m : List �
         next = record {
           k = heldKey x;
           d = n;
-          rest = take-dummy (core z) n (dummy (x .making)) (f .2) (f .0) fits (s .dum) (f .1);
+          rest = take-dummy (core z) n (dummy (x .making)) (f .2) (f .0) fits (s .dummy-hand) (f .1);
           spot = F.f1;
           place = refl;
           sane = (s .sane .0, s .sane .1, omega arith, s .sane .3, s .sane .4, s .sane .5, s .sane .6, s .sane .7, s .sane .8, s .sane .9, s .sane .10, fits);
           key-same = sym (s .hand);
-          dum-same = refl;
+          dummy-same = refl;
           key-has = λ y. later .has D N (heldKey x) y (core z .key-held y) ∙ s .key-has y;
-          dum-has = λ y. take-key-is (core z) n (dummy (x .making)) (f .2) (f .0) fits;
+          dummy-has = λ y. take-key-is (core z) n (dummy (x .making)) (f .2) (f .0) fits;
           at = (forDummy refl (b .0) (b .1) ne, st.start later (b .2));
         };
         change = take-same (core z) n (dummy (x .making)) (f .2) (f .0) fits;
@@ -169,7 +169,7 @@ module _ {h : Header} {ws : List Worker} {Ps Qs : Pasts} {w : ℕ} {c m : List �
       some : x .dummy ≢ 0
       some e = omega (arith, some-on m 0 1 (b .2 .on) (g₀ .walk))
 
-      stores : (q : F.Spot) (p a : ℕ) → a < h .m → p ≡ F.number q → F.keyOf q (ticked (to p (withMaking a (withDummy 0 x)))) ≡ heldKey x → F.dumOf q (ticked (to p (withMaking a (withDummy 0 x)))) ≡ 0
+      stores : (q : F.Spot) (p a : ℕ) → a < h .m → p ≡ F.number q → F.keyOf q (ticked (to p (withMaking a (withDummy 0 x)))) ≡ heldKey x → F.dummyOf q (ticked (to p (withMaking a (withDummy 0 x)))) ≡ 0
           → F.At h w c m (Qs w) q (ticked (to p (withMaking a (withDummy 0 x)))) → took q (x .errand) ≡ false → G (Going (to p (withMaking a (withDummy 0 x))) (Store (x .making) (x .dummy)))
       stores q p a l pl ek ed at t = record {
         chain = c;
@@ -181,9 +181,9 @@ module _ {h : Header} {ws : List Worker} {Ps Qs : Pasts} {w : ℕ} {c m : List �
           place = pl;
           sane = (s .sane .0, s .sane .1, s .sane .2, s .sane .3, s .sane .4, l, s .sane .6, s .sane .7, s .sane .8, s .sane .9, s .sane .10, omega arith);
           key-same = ek;
-          dum-same = ed ∙ sym (s .dum);
+          dummy-same = ed ∙ sym (s .dummy-hand);
           key-has = s .key-has;
-          dum-has = λ n. absurd (n (s .dum));
+          dummy-has = λ n. absurd (n (s .dummy-hand));
           at = at;
         };
         change = unmoved;

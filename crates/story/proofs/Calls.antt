@@ -45,7 +45,7 @@ use Rattle.register.specs.Events.{Event, nothing, added, removed, written, taki
 use Rattle.story.specs.Run.{Call, start, step}
 use Rattle.story.specs.Trace.{Quiet, Keeps, Shared, workerOf, turnOf, seenAt, Done, doneBy, startDone, moveDone, stepDone, done, Called, ticked, Paused, Next, calls, pause}
 use Rattle.story.proofs.Registers.{Change, unmoved}
-use Rattle.story.proofs.Facts.{Spot, i1, sz, tb, b2, b4, f1, f2, f3, f4, l2, b8, i8, i9, i10, d4a, d4b, d6, number, At, keyOf, dumOf, Busy, Fact}
+use Rattle.story.proofs.Facts.{Spot, i1, sz, tb, b2, b4, f1, f2, f3, f4, l2, b8, i8, i9, i10, d4a, d4b, d6, number, At, keyOf, dummyOf, Busy, Fact}
 use Rattle.story.proofs.Stable as st
 use Rattle.story.proofs.Hands.{key-is, dummy-is}
 use Rattle.story.proofs.Core.{Pasts, recordOf, Agrees, grown, Inv, aside, back, not-idle}
@@ -84,10 +84,10 @@ module _ {h : Header} {ws : List Worker} {Ps Qs : Pasts} {w : ℕ} {c m : List �
   by-spot tb s a = subst (λ (u : ℕ). Good z false (moves.tb (seen h x u 0))) (sym (asked-tb (s .place))) (tb-good z s a)
   by-spot b2 s a = subst (λ (u : ℕ). Good z false (moves.b2 (seen h x u 0))) (sym (asked-b2 (s .place))) (b2-good z s a)
   by-spot b4 s a = b4-good z s a
-  by-spot f1 s a = f1-good z f1 s (s .hand) (s .dum) a
-  by-spot f2 s a = f2-good z f2 s (s .hand) (s .dum) a
-  by-spot f3 s a = f3-good z f3 s (s .hand) (s .dum) a
-  by-spot f4 s a = f4-good z f4 s (s .hand) (s .dum) a
+  by-spot f1 s a = f1-good z f1 s (s .hand) (s .dummy-hand) a
+  by-spot f2 s a = f2-good z f2 s (s .hand) (s .dummy-hand) a
+  by-spot f3 s a = f3-good z f3 s (s .hand) (s .dummy-hand) a
+  by-spot f4 s a = f4-good z f4 s (s .hand) (s .dummy-hand) a
   by-spot l2 s a = l2-good z s a
   by-spot b8 s a = b8-good z s a
   by-spot i8 s a = i8-good z s a
@@ -107,17 +107,17 @@ module _ {h : Header} {ws : List Worker} {Ps Qs : Pasts} {w : ℕ} {c m : List �
       hand : heldKey x ≡ keyOf (b .spot) x
       hand = key-is h w c m (Ps w) x b
 
-      dum : heldDummy x ≡ dumOf (b .spot) x
-      dum = dummy-is h w c m (Ps w) x b
+      dummy-hand : heldDummy x ≡ dummyOf (b .spot) x
+      dummy-hand = dummy-is h w c m (Ps w) x b
 
       stands : Stands z (b .spot)
       stands = record {
         place = b .place;
         sane = b .sane;
         hand = hand;
-        dum = dum;
+        dummy-hand = dummy-hand;
         key-has = λ n. rw hand (b .held (λ e. n (hand ∙ e)) .has);
-        dum-has = λ n. rw dum (b .dum (λ e. n (dum ∙ e)) .has);
+        dummy-has = λ n. rw dummy-hand (b .dummy-held (λ e. n (dummy-hand ∙ e)) .has);
       }
 
   -- L2 is on the errand of a dummy or of the key
@@ -154,14 +154,14 @@ regrown {h} {ws} {Ps} {c} {m} inv Qs up = record {
   size = inv .size;
   few = inv .few;
   long = inv .long;
-  glob = inv .glob;
+  of-nodes = inv .of-nodes;
   key-held = inv .key-held;
-  dum-held = inv .dum-held;
+  dummy-held = inv .dummy-held;
   fact = λ v l ne. grown h v c m (Ps v) (Qs v) (up v) (recordOf ws v) (inv .fact v l ne);
   bits = inv .bits;
   apart = inv .apart;
   key-mine = inv .key-mine;
-  dum-mine = inv .dum-mine;
+  dummy-mine = inv .dummy-mine;
   whole = inv .whole;
   waits = inv .waits;
   keyed = inv .keyed;
@@ -212,7 +212,7 @@ laid-is s′ d p q t = λ i. record { header = p i; workers = q i; nodes = t i; 
 
 -- ---- a pause: a record that is ticked keeps its fact
 ticked-at : (h : Header) (u : ℕ) (c m : List ℕ) (P : ℕ → ℕ → ℕ → Type 0) (p : Spot) (y : Worker)
-    → At h u c m P p y → At h u c m P p (ticked y) × (keyOf p (ticked y) ≡ keyOf p y) × (dumOf p (ticked y) ≡ dumOf p y)
+    → At h u c m P p y → At h u c m P p (ticked y) × (keyOf p (ticked y) ≡ keyOf p y) × (dummyOf p (ticked y) ≡ dummyOf p y)
 ticked-at h u c m P i1 y a = (a, refl, refl)
 ticked-at h u c m P sz y a = (a, refl, refl)
 ticked-at h u c m P tb y a = (a, refl, refl)
@@ -240,7 +240,7 @@ ticked-fact h u c m P y ne (inr b) =
       place = b .place;
       sane = b .sane;
       held = λ z. rw (t .1) (b .held (λ e. z (t .1 ∙ e)));
-      dum = λ z. rw (t .2) (b .dum (λ e. z (t .2 ∙ e)));
+      dummy-held = λ z. rw (t .2) (b .dummy-held (λ e. z (t .2 ∙ e)));
       at = t .0;
     })
 

@@ -18,7 +18,7 @@ use Rattle.record.specs.declared.Worker.{Worker}
 use Rattle.record.specs.Worker.{idle, heldKey, heldDummy}
 use Rattle.register.specs.Chain.{key, standing}
 use Rattle.words.proofs.Laws.{nothing}
-use Rattle.story.proofs.Facts.{Held, Glob, OfBucket, Root, Spot, number, i1, sz, tb, b2, b4, f1, f2, f3, f4, l2, b8, i8, i9, i10, d4a, d4b, d6, keyOf, dumOf, Fact, Later}
+use Rattle.story.proofs.Facts.{Held, Nodes, OfBucket, Root, Spot, number, i1, sz, tb, b2, b4, f1, f2, f3, f4, l2, b8, i8, i9, i10, d4a, d4b, d6, keyOf, dummyOf, Fact, Later}
 use Rattle.story.proofs.Stable as st
 use Rattle.story.proofs.Effects.{same}
 use Rattle.story.proofs.Hands.{key-is, dummy-is, idle-key, idle-dummy}
@@ -51,14 +51,14 @@ pub record Core (h : Header) (ws : List Worker) (Ps : Pasts) (w k d : ℕ) (c m 
   pub size : PowerFromTo 2 (h .m) (h .size)
   pub few : h .busy < 2 ^ h .w
   pub long : h .w ≤ length ws
-  pub glob : Glob (dummiesOf h) (nodesOf h) c m
+  pub of-nodes : Nodes (dummiesOf h) (nodesOf h) c m
   pub key-held : k ≢ 0 → Held (dummiesOf h) (nodesOf h) c m k
-  pub dum-held : d ≢ 0 → Held 0 (dummiesOf h) c m d
+  pub dummy-held : d ≢ 0 → Held 0 (dummiesOf h) c m d
   pub fact : (v : ℕ) → v < h .w → v ≢ w → Fact h v c m (Ps v) (recordOf ws v)
   pub bits : (v : ℕ) → v < h .w → v ≢ w → Agrees (recordOf ws v) (bit v (h .busy))
   pub apart : (u v : ℕ) → u < h .w → v < h .w → u ≢ w → v ≢ w → u ≢ v → Apart (recordOf ws u) (recordOf ws v)
   pub key-mine : (v : ℕ) → v < h .w → v ≢ w → k ≢ 0 → heldKey (recordOf ws v) ≢ k
-  pub dum-mine : (v : ℕ) → v < h .w → v ≢ w → d ≢ 0 → heldDummy (recordOf ws v) ≢ d
+  pub dummy-mine : (v : ℕ) → v < h .w → v ≢ w → d ≢ 0 → heldDummy (recordOf ws v) ≢ d
   pub whole : (n : ℕ) → n ≤ nodesOf h → standing m n ≡ TAKEN → In n c ⊎ ((k ≡ n) ⊎ (d ≡ n)) ⊎ Holder (h .w) ws w n
   pub waits : (n v : ℕ) → n ≤ nodesOf h → standing m n < 65536 → bit v (standing m n) ≡ 1 → bit v (h .busy) ≡ 1
   pub keyed : (n : ℕ) → n ≤ nodesOf h → 1 ≤ standing m n → standing m n < 65536 → dummiesOf h < n
@@ -98,7 +98,7 @@ module _ (h : Header) (v : ℕ) (c m : List ℕ) (P : ℕ → ℕ → ℕ → Ty
 
   pub fact-dummy : Fact h v c m P x → heldDummy x ≢ 0 → Held 0 (dummiesOf h) c m (heldDummy x)
   fact-dummy (inl e) z = absurd (z (rw e idle-dummy))
-  fact-dummy (inr b) z = rw (dummy-is h v c m P x b) (b .dum (λ q. z (dummy-is h v c m P x b ∙ q)) .held)
+  fact-dummy (inr b) z = rw (dummy-is h v c m P x b) (b .dummy-held (λ q. z (dummy-is h v c m P x b ∙ q)) .held)
 
 -- what own steps saw may grow
 pub grown : (h : Header) (v : ℕ) (c m : List ℕ) (P Q : ℕ → ℕ → ℕ → Type 0) → st.Grows P Q → (x : Worker) → Fact h v c m P x → Fact h v c m Q x
@@ -116,14 +116,14 @@ module _ {h : Header} {ws : List Worker} {Ps : Pasts} {c m : List ℕ} {β : ℕ
     size = inv .size;
     few = inv .few;
     long = inv .long;
-    glob = inv .glob;
+    of-nodes = inv .of-nodes;
     key-held = fact-key h w c m (Ps w) (recordOf ws w) whose;
-    dum-held = fact-dummy h w c m (Ps w) (recordOf ws w) whose;
+    dummy-held = fact-dummy h w c m (Ps w) (recordOf ws w) whose;
     fact = λ v l ne. inv .fact v l (omega arith);
     bits = λ v l ne. inv .bits v l (omega arith);
     apart = λ u v a b p q. inv .apart u v a b (omega arith) (omega arith);
     key-mine = λ v l ne z e. inv .apart w v lt l (omega arith) (omega arith) (λ q. ne (sym q)) .0 z (sym e);
-    dum-mine = λ v l ne z e. inv .apart w v lt l (omega arith) (omega arith) (λ q. ne (sym q)) .1 z (sym e);
+    dummy-mine = λ v l ne z e. inv .apart w v lt l (omega arith) (omega arith) (λ q. ne (sym q)) .1 z (sym e);
     whole = λ n f t. ⊎-elim inl (λ o. inr (⊎-elim (⊎-elim (nobody n t) (nobody n t)) (λ a. by-who n a (ℕ-discrete (a .who) w)) o)) (inv .whole n f t);
     waits = inv .waits;
     keyed = inv .keyed;
@@ -157,14 +157,14 @@ module _ {h : Header} {ws : List Worker} {Ps : Pasts} {w k d : ℕ} {c m : List 
     size = core .size;
     few = core .few;
     long = rw (length-set ws w y) (core .long);
-    glob = core .glob;
+    of-nodes = core .of-nodes;
     key-held = λ z. absurd (z refl);
-    dum-held = λ z. absurd (z refl);
+    dummy-held = λ z. absurd (z refl);
     fact = λ v l ne. fact v l (ℕ-discrete v w);
     bits = λ v l ne. bits v l (ℕ-discrete v w);
     apart = λ u v a b p q ne. apart u v a b ne (ℕ-discrete u w) (ℕ-discrete v w);
     key-mine = λ v l ne z. absurd (z refl);
-    dum-mine = λ v l ne z. absurd (z refl);
+    dummy-mine = λ v l ne z. absurd (z refl);
     whole = λ n f t. ⊎-elim inl (λ o. inr (inr (⊎-elim (own n) (other n) o))) (core .whole n f t);
     waits = core .waits;
     keyed = core .keyed;
@@ -188,19 +188,19 @@ module _ {h : Header} {ws : List Worker} {Ps : Pasts} {w k d : ℕ} {c m : List 
           zero (yes z) = e ∙ ek ∙ z
           zero (no z) = absurd (core .key-mine v l ne z (e ∙ ek))
 
-      dum-other : (v : ℕ) → v < h .w → v ≢ w → heldDummy (recordOf ws v) ≡ heldDummy y → heldDummy (recordOf ws v) ≡ 0
-      dum-other v l ne e = zero (ℕ-discrete d 0)
+      dummy-other : (v : ℕ) → v < h .w → v ≢ w → heldDummy (recordOf ws v) ≡ heldDummy y → heldDummy (recordOf ws v) ≡ 0
+      dummy-other v l ne e = zero (ℕ-discrete d 0)
         where
           zero : Dec (d ≡ 0) → heldDummy (recordOf ws v) ≡ 0
           zero (yes z) = e ∙ ed ∙ z
-          zero (no z) = absurd (core .dum-mine v l ne z (e ∙ ed))
+          zero (no z) = absurd (core .dummy-mine v l ne z (e ∙ ed))
 
       apart : (u v : ℕ) → u < h .w → v < h .w → u ≢ v → Dec (u ≡ w) → Dec (v ≡ w) → Apart (recordOf ws′ u) (recordOf ws′ v)
       apart u v a b ne (yes p) (yes q) = absurd (ne (p ∙ sym q))
       apart u v a b ne (yes p) (no q) =
-          rw (p, here-is, there-is v q) (λ z e. z (e ∙ key-other v b q (sym e)), λ z e. z (e ∙ dum-other v b q (sym e)))
+          rw (p, here-is, there-is v q) (λ z e. z (e ∙ key-other v b q (sym e)), λ z e. z (e ∙ dummy-other v b q (sym e)))
       apart u v a b ne (no p) (yes q) =
-          rw (q, here-is, there-is u p) (λ z e. z (key-other u a p e), λ z e. z (dum-other u a p e))
+          rw (q, here-is, there-is u p) (λ z e. z (key-other u a p e), λ z e. z (dummy-other u a p e))
       apart u v a b ne (no p) (no q) = rw (there-is u p, there-is v q) (core .apart u v a b p q ne)
 
       own : (n : ℕ) → (k ≡ n) ⊎ (d ≡ n) → Holder (h .w) ws′ (h .w) n
@@ -211,13 +211,13 @@ module _ {h : Header} {ws : List Worker} {Ps : Pasts} {w k d : ℕ} {c m : List 
 
 -- ---- the nodes change: what is to be shown of it; g is the node that the worker has in hand there, 0 for none
 pub record Shift (h : Header) (w k d k′ d′ g : ℕ) (c m c′ m′ : List ℕ) : Type 0 where
-  pub glob : Glob (dummiesOf h) (nodesOf h) c′ m′
+  pub of-nodes : Nodes (dummiesOf h) (nodesOf h) c′ m′
   pub later : (v : ℕ) → v ≢ w → bit v (h .busy) ≡ 1 → Later (dummiesOf h) (nodesOf h) v g c m c′ m′
   pub touch : (g ≡ 0) ⊎ ((g ≡ k) ⊎ (g ≡ d))
   pub key-held : k′ ≢ 0 → Held (dummiesOf h) (nodesOf h) c′ m′ k′
-  pub dum-held : d′ ≢ 0 → Held 0 (dummiesOf h) c′ m′ d′
+  pub dummy-held : d′ ≢ 0 → Held 0 (dummiesOf h) c′ m′ d′
   pub key-from : (k′ ≡ 0) ⊎ ((k′ ≡ k) ⊎ (standing m k′ ≡ 0))
-  pub dum-from : (d′ ≡ 0) ⊎ ((d′ ≡ d) ⊎ (standing m d′ ≡ 0))
+  pub dummy-from : (d′ ≡ 0) ⊎ ((d′ ≡ d) ⊎ (standing m d′ ≡ 0))
   pub was : (n : ℕ) → n ≤ nodesOf h → standing m′ n ≡ TAKEN → (standing m n ≡ TAKEN) ⊎ ((k′ ≡ n) ⊎ (d′ ≡ n))
   pub stays : (n : ℕ) → standing m′ n ≡ TAKEN → In n c → In n c′
   pub own : (n : ℕ) → standing m′ n ≡ TAKEN → (k ≡ n) ⊎ (d ≡ n) → In n c′ ⊎ ((k′ ≡ n) ⊎ (d′ ≡ n))
@@ -234,30 +234,30 @@ module _ {h : Header} {ws : List Worker} {Ps : Pasts} {w k d : ℕ} {c m : List 
   key-of : (v : ℕ) → v < h .w → v ≢ w → heldKey (x v) ≢ 0 → Held (dummiesOf h) (nodesOf h) c m (heldKey (x v))
   key-of v l ne z = fact-key h v c m (Ps v) (x v) (core .fact v l ne) z
 
-  dum-of : (v : ℕ) → v < h .w → v ≢ w → heldDummy (x v) ≢ 0 → Held 0 (dummiesOf h) c m (heldDummy (x v))
-  dum-of v l ne z = fact-dummy h v c m (Ps v) (x v) (core .fact v l ne) z
+  dummy-of : (v : ℕ) → v < h .w → v ≢ w → heldDummy (x v) ≢ 0 → Held 0 (dummiesOf h) c m (heldDummy (x v))
+  dummy-of v l ne z = fact-dummy h v c m (Ps v) (x v) (core .fact v l ne) z
 
   -- no other worker has it in hand
   key-away : (v : ℕ) → v < h .w → v ≢ w → heldKey (x v) ≢ 0 → heldKey (x v) ≢ g
   key-away v l ne z e = ⊎-elim (λ q. z (e ∙ q))
       (⊎-elim (λ q. core .key-mine v l ne (λ y. z (e ∙ q ∙ y)) (e ∙ q))
-      (λ q. omega (arith, key-of v l ne z .low, core .dum-held (λ y. z (e ∙ q ∙ y)) .high, e ∙ q))) (s .touch)
+      (λ q. omega (arith, key-of v l ne z .low, core .dummy-held (λ y. z (e ∙ q ∙ y)) .high, e ∙ q))) (s .touch)
 
-  dum-away : (v : ℕ) → v < h .w → v ≢ w → heldDummy (x v) ≢ 0 → heldDummy (x v) ≢ g
-  dum-away v l ne z e = ⊎-elim (λ q. z (e ∙ q))
-      (⊎-elim (λ q. omega (arith, dum-of v l ne z .high, core .key-held (λ y. z (e ∙ q ∙ y)) .low, e ∙ q))
-      (λ q. core .dum-mine v l ne (λ y. z (e ∙ q ∙ y)) (e ∙ q))) (s .touch)
+  dummy-away : (v : ℕ) → v < h .w → v ≢ w → heldDummy (x v) ≢ 0 → heldDummy (x v) ≢ g
+  dummy-away v l ne z e = ⊎-elim (λ q. z (e ∙ q))
+      (⊎-elim (λ q. omega (arith, dummy-of v l ne z .high, core .key-held (λ y. z (e ∙ q ∙ y)) .low, e ∙ q))
+      (λ q. core .dummy-mine v l ne (λ y. z (e ∙ q ∙ y)) (e ∙ q))) (s .touch)
 
   fact : (v : ℕ) → v < h .w → v ≢ w → Fact h v c m (Ps v) (x v) → Agrees (x v) (bit v (h .busy)) → Fact h v c′ m′ (Ps v) (x v)
   fact v l ne (inl e) ag = inl e
   fact v l ne (inr b) (inl p) = absurd (not-idle (b .spot) (sym (b .place) ∙ p .0))
   fact v l ne (inr b) (inr p) = inr (st.busy h v g c m c′ m′ (s .later v ne (p .1)) (Ps v) (Ps v) (λ a b k z. z) (x v) b
-      (rw (← kb) (key-away v l ne)) (rw (← db) (dum-away v l ne)))
+      (rw (← kb) (key-away v l ne)) (rw (← db) (dummy-away v l ne)))
     where
       kb : heldKey (x v) ≡ keyOf (b .spot) (x v)
       kb = key-is h v c m (Ps v) (x v) b
 
-      db : heldDummy (x v) ≡ dumOf (b .spot) (x v)
+      db : heldDummy (x v) ≡ dummyOf (b .spot) (x v)
       db = dummy-is h v c m (Ps v) (x v) b
 
   pub shift : Core h ws Ps w k′ d′ c′ m′ β
@@ -266,16 +266,16 @@ module _ {h : Header} {ws : List Worker} {Ps : Pasts} {w k d : ℕ} {c m : List 
     size = core .size;
     few = core .few;
     long = core .long;
-    glob = s .glob;
+    of-nodes = s .of-nodes;
     key-held = s .key-held;
-    dum-held = s .dum-held;
+    dummy-held = s .dummy-held;
     fact = λ v l ne. fact v l ne (core .fact v l ne) (core .bits v l ne);
     bits = core .bits;
     apart = core .apart;
     key-mine = λ v l ne z e. ⊎-elim z (⊎-elim (λ q. core .key-mine v l ne (λ y. z (q ∙ y)) (e ∙ q))
         (λ q. let f : standing m (heldKey (x v)) ≡ TAKEN = key-of v l ne (λ y. z (sym e ∙ y)) .is in omega (arith, rw e at f))) (s .key-from);
-    dum-mine = λ v l ne z e. ⊎-elim z (⊎-elim (λ q. core .dum-mine v l ne (λ y. z (q ∙ y)) (e ∙ q))
-        (λ q. let f : standing m (heldDummy (x v)) ≡ TAKEN = dum-of v l ne (λ y. z (sym e ∙ y)) .is in omega (arith, rw e at f))) (s .dum-from);
+    dummy-mine = λ v l ne z e. ⊎-elim z (⊎-elim (λ q. core .dummy-mine v l ne (λ y. z (q ∙ y)) (e ∙ q))
+        (λ q. let f : standing m (heldDummy (x v)) ≡ TAKEN = dummy-of v l ne (λ y. z (sym e ∙ y)) .is in omega (arith, rw e at f))) (s .dummy-from);
     whole = λ n f t. ⊎-elim (λ t₀. ⊎-elim (λ i. inl (s .stays n t i)) (⊎-elim (λ o. mine (s .own n t o)) (λ o. inr (inr o))) (core .whole n f t₀)) (λ o. inr (inl o)) (s .was n f t);
     waits = s .waits;
     keyed = s .keyed;

@@ -41,7 +41,7 @@ module _ {h : Header} {ws : List Worker} {Ps : Pasts} {w k d : ℕ} {c m : List 
 
   -- one node in a slot
   one : {a b s t : ℕ} → Slot a s → Slot b t → s ≡ t → a ≡ b
-  one (bucket b r i e) (bucket b′ r′ i′ e′) q = let z : b ≡ b′ = omega arith in same-key m 0 1 i i′ (core .glob .walk) (e ∙ ap dummy z ∙ sym e′)
+  one (bucket b r i e) (bucket b′ r′ i′ e′) q = let z : b ≡ b′ = omega arith in same-key m 0 1 i i′ (core .of-nodes .walk) (e ∙ ap dummy z ∙ sym e′)
   one (bucket b r i e) (worker v r′ ne e′) q = absurd (omega arith)
   one (worker v r ne e) (bucket b r′ i e′) q = absurd (omega arith)
   one (worker v r ne e) (worker v′ r′ ne′ e′) q = let z : v ≡ v′ = omega arith in sym e ∙ ap (λ (u : ℕ). heldDummy (recordOf ws u)) z ∙ e′
@@ -51,7 +51,7 @@ module _ {h : Header} {ws : List Worker} {Ps : Pasts} {w k d : ℕ} {c m : List 
 
   -- a dummy node that is not free has its slot
   slot : d ≡ 0 → freeNode m 1 (dummiesOf h) ≡ 0 → (n : ℕ) → 1 ≤ n → n ≤ dummiesOf h → (s : ℕ) × Slot n s
-  slot none full n lo hi = ⊎-elim waiting taken (core .glob .kinds n (omega arith))
+  slot none full n lo hi = ⊎-elim waiting taken (core .of-nodes .kinds n (omega arith))
     where
       waiting : standing m n < 65536 → (s : ℕ) × Slot n s
       waiting small = by (ℕ-discrete (standing m n) 0)

@@ -15,36 +15,36 @@ use Rattle.scans.proofs.Laws.{leave-set, leave-taken, leave-le}
 use Rattle.words.proofs.Laws.{nothing}
 use Rattle.register.specs.Chain.{key, link, standing, after, mark}
 use Rattle.story.proofs.Chain.{putAfter, cutAfter, frame, insert, unlink, put-old, put-only, cut-old, cut-only, cut-gone, succ-in, some-on, root-on}
-use Rattle.story.proofs.Facts.{Waits, Prot, Held, Glob, Later}
+use Rattle.story.proofs.Facts.{Waits, Safe, Held, Nodes, Later}
 
 -- a read
 pub same : (D N v g : ℕ) (c m : List ℕ) → Later D N v g c m c m
-same D N v g c m = record { prot = λ n p. p; keys = λ n p. refl; dead = λ n p d. refl; root = λ n i e. i; held = λ lo hi n ne b q. q; has = λ lo hi n ne q. refl }
+same D N v g c m = record { safe = λ n p. p; keys = λ n p. refl; dead = λ n p d. refl; root = λ n i e. i; held = λ lo hi n ne b q. q; has = λ lo hi n ne q. refl }
 
-module _ (D N : ℕ) (c m : List ℕ) (g : Glob D N c m) where
-  -- what a protected node is: unmarked, it is on the chain
-  pub live-on : (v n : ℕ) → Prot N v c m n → mark m n ≡ 0 → In n c
+module _ (D N : ℕ) (c m : List ℕ) (g : Nodes D N c m) where
+  -- what a safe node is: unmarked, it is on the chain
+  pub live-on : (v n : ℕ) → Safe N v c m n → mark m n ≡ 0 → In n c
   live-on v n (inl i) e = i
   live-on v n (inr w) e = absurd (omega (arith, g .left n (w .fits) (bit-some v (standing m n) (w .has)) (w .small)))
 
-  pub prot-fits : (v n : ℕ) → Prot N v c m n → n ≤ N
-  prot-fits v n (inl i) = g .fits n i
-  prot-fits v n (inr w) = w .fits
+  pub safe-fits : (v n : ℕ) → Safe N v c m n → n ≤ N
+  safe-fits v n (inl i) = g .fits n i
+  safe-fits v n (inr w) = w .fits
 
-  pub prot-some : (v n : ℕ) → Prot N v c m n → n ≢ 0
-  prot-some v n (inl i) e = omega (arith, some-on m 0 1 i (g .walk))
-  prot-some v n (inr w) e = let z : standing m n ≡ 0 = rw e (nothing m 2) in omega (arith, bit-some v (standing m n) (w .has))
+  pub safe-some : (v n : ℕ) → Safe N v c m n → n ≢ 0
+  safe-some v n (inl i) e = omega (arith, some-on m 0 1 i (g .walk))
+  safe-some v n (inr w) e = let z : standing m n ≡ 0 = rw e (nothing m 2) in omega (arith, bit-some v (standing m n) (w .has))
 
   pub next-fits : (n : ℕ) → n ≤ N → after m n ≤ N
   next-fits n b = omega (arith, g .links n b)
 
--- a held node is not protected for anybody
-pub held-free : (N v lo hi : ℕ) (c m : List ℕ) (n : ℕ) → Held lo hi c m n → Prot N v c m n → ⊥
+-- a held node is not safe for anybody
+pub held-free : (N v lo hi : ℕ) (c m : List ℕ) (n : ℕ) → Held lo hi c m n → Safe N v c m n → ⊥
 held-free N v lo hi c m n h (inl i) = h .off i
 held-free N v lo hi c m n h (inr w) = omega (arith, h .is, w .small)
 
 -- L2: h, held, is linked after p
-module _ (D N lo hi : ℕ) (c m m′ : List ℕ) (p h cur most : ℕ) (g : Glob D N c m) (hh : Held lo hi c m h) (bound : hi ≤ N) (i : In p c)
+module _ (D N lo hi : ℕ) (c m m′ : List ℕ) (p h cur most : ℕ) (g : Nodes D N c m) (hh : Held lo hi c m h) (bound : hi ≤ N) (i : In p c)
     (size : length m′ ≡ length m) (ek : (n : ℕ) → key m′ n ≡ key m n) (es : (n : ℕ) → standing m′ n ≡ standing m n)
     (el : (n : ℕ) → n ≢ p → n ≢ h → link m′ n ≡ link m n) (lp : link m′ p ≡ h * 2) (lh : link m′ h ≡ cur * 2)
     (was : link m p ≡ cur * 2) (has : key m h ≡ most) (low : key m p < most) (high : cur ≢ 0 → most < key m cur)
@@ -58,7 +58,7 @@ module _ (D N lo hi : ℕ) (c m m′ : List ℕ) (p h cur most : ℕ) (g : Glob 
   np : after m p ≡ cur
   np = rw was (omega arith)
 
-  pub linked : Glob D N (putAfter i h) m′
+  pub linked : Nodes D N (putAfter i h) m′
   linked = record {
     size = rw size (g .size);
     zero = ek 1 ∙ g .zero;
@@ -107,7 +107,7 @@ module _ (D N lo hi : ℕ) (c m m′ : List ℕ) (p h cur most : ℕ) (g : Glob 
 
   pub linked-later : (v : ℕ) → Later D N v h c m (putAfter i h) m′
   linked-later v = record {
-    prot = prot;
+    safe = safe;
     keys = λ n q. ek n;
     dead = λ n q d. el n (λ e. omega (arith, rw (e, was) at d)) (λ e. held-free N v lo hi c m h hh (rw e at q));
     root = λ n j e. put-old i h j;
@@ -115,12 +115,12 @@ module _ (D N lo hi : ℕ) (c m m′ : List ℕ) (p h cur most : ℕ) (g : Glob 
     has = λ lo′ hi′ n ne q. ek n;
   }
     where
-      prot : (n : ℕ) → Prot N v c m n → Prot N v (putAfter i h) m′ n
-      prot n (inl j) = inl (put-old i h j)
-      prot n (inr w) = inr (record { fits = w .fits; small = rw (es n) (w .small); has = rw (es n) (w .has) })
+      safe : (n : ℕ) → Safe N v c m n → Safe N v (putAfter i h) m′ n
+      safe n (inl j) = inl (put-old i h j)
+      safe n (inr w) = inr (record { fits = w .fits; small = rw (es n) (w .small); has = rw (es n) (w .has) })
 
 -- F4, D4b: the marked node after p is unlinked, and waits for all that are busy
-module _ (D N : ℕ) (c m m′ : List ℕ) (p cur nx busy : ℕ) (g : Glob D N c m) (i : In p c)
+module _ (D N : ℕ) (c m m′ : List ℕ) (p cur nx busy : ℕ) (g : Nodes D N c m) (i : In p c)
     (size : length m′ ≡ length m) (ek : (n : ℕ) → key m′ n ≡ key m n) (es : (n : ℕ) → n ≢ cur → standing m′ n ≡ standing m n)
     (sc : standing m′ cur ≡ busy) (el : (n : ℕ) → n ≢ p → link m′ n ≡ link m n) (lp : link m′ p ≡ nx * 2)
     (was : link m p ≡ cur * 2) (some : cur ≢ 0) (dead : link m cur ≡ nx * 2 + 1) (small : busy < 65536) where
@@ -142,7 +142,7 @@ module _ (D N : ℕ) (c m m′ : List ℕ) (p cur nx busy : ℕ) (g : Glob D N c
   key-sort : D < cur
   key-sort = g .dead cur on-cur (rw dead (omega arith))
 
-  pub unlinked : Glob D N (cutAfter i) m′
+  pub unlinked : Nodes D N (cutAfter i) m′
   unlinked = record {
     size = rw size (g .size);
     zero = ek 1 ∙ g .zero;
@@ -177,7 +177,7 @@ module _ (D N : ℕ) (c m m′ : List ℕ) (p cur nx busy : ℕ) (g : Glob D N c
 
   pub unlinked-later : (v h : ℕ) → bit v busy ≡ 1 → Later D N v h c m (cutAfter i) m′
   unlinked-later v h has = record {
-    prot = λ n. prot n (ℕ-discrete n cur);
+    safe = λ n. safe n (ℕ-discrete n cur);
     keys = λ n q. ek n;
     dead = λ n q d. el n (λ e. omega (arith, rw (e, was) at d));
     root = λ n j e. kept n j (λ q. omega (arith, key-sort));
@@ -193,17 +193,17 @@ module _ (D N : ℕ) (c m m′ : List ℕ) (p cur nx busy : ℕ) (g : Glob D N c
       off-cur : (n : ℕ) → (In n c → ⊥) → n ≢ cur
       off-cur n f e = f (rw e on-cur)
 
-      prot : (n : ℕ) → Dec (n ≡ cur) → Prot N v c m n → Prot N v (cutAfter i) m′ n
-      prot n (yes e) q = inr (record { fits = rw e (g .fits cur on-cur); small = rw (e, sc) small; has = rw (e, sc) has })
-      prot n (no ne) (inl j) = inl (kept n j ne)
-      prot n (no ne) (inr w) = inr (record { fits = w .fits; small = rw (es n ne) (w .small); has = rw (es n ne) (w .has) })
+      safe : (n : ℕ) → Dec (n ≡ cur) → Safe N v c m n → Safe N v (cutAfter i) m′ n
+      safe n (yes e) q = inr (record { fits = rw e (g .fits cur on-cur); small = rw (e, sc) small; has = rw (e, sc) has })
+      safe n (no ne) (inl j) = inl (kept n j ne)
+      safe n (no ne) (inr w) = inr (record { fits = w .fits; small = rw (es n ne) (w .small); has = rw (es n ne) (w .has) })
 
 -- D4a: a node on the chain is marked
-module _ (D N : ℕ) (c m m′ : List ℕ) (cur nx : ℕ) (g : Glob D N c m) (i : In cur c)
+module _ (D N : ℕ) (c m m′ : List ℕ) (cur nx : ℕ) (g : Nodes D N c m) (i : In cur c)
     (size : length m′ ≡ length m) (ek : (n : ℕ) → key m′ n ≡ key m n) (es : (n : ℕ) → standing m′ n ≡ standing m n)
     (el : (n : ℕ) → n ≢ cur → link m′ n ≡ link m n) (lc : link m′ cur ≡ nx * 2 + 1)
     (was : link m cur ≡ nx * 2) (sort : D < cur) where
-  pub marked : Glob D N c m′
+  pub marked : Nodes D N c m′
   marked = record {
     size = rw size (g .size);
     zero = ek 1 ∙ g .zero;
@@ -236,7 +236,7 @@ module _ (D N : ℕ) (c m m′ : List ℕ) (cur nx : ℕ) (g : Glob D N c m) (i 
 
   pub marked-later : (v h : ℕ) → Later D N v h c m c m′
   marked-later v h = record {
-    prot = prot;
+    safe = safe;
     keys = λ n q. ek n;
     dead = λ n q d. el n (λ e. omega (arith, rw (e, was) at d));
     root = λ n j e. j;
@@ -244,18 +244,18 @@ module _ (D N : ℕ) (c m m′ : List ℕ) (cur nx : ℕ) (g : Glob D N c m) (i 
     has = λ lo hi n ne q. ek n;
   }
     where
-      prot : (n : ℕ) → Prot N v c m n → Prot N v c m′ n
-      prot n (inl j) = inl j
-      prot n (inr w) = inr (record { fits = w .fits; small = rw (es n) (w .small); has = rw (es n) (w .has) })
+      safe : (n : ℕ) → Safe N v c m n → Safe N v c m′ n
+      safe n (inl j) = inl j
+      safe n (inr w) = inr (record { fits = w .fits; small = rw (es n) (w .small); has = rw (es n) (w .has) })
 
 -- L2 that fails: the held node's link is written
-module _ (D N lo hi : ℕ) (c m m′ : List ℕ) (h : ℕ) (g : Glob D N c m) (hh : Held lo hi c m h)
+module _ (D N lo hi : ℕ) (c m m′ : List ℕ) (h : ℕ) (g : Nodes D N c m) (hh : Held lo hi c m h)
     (size : length m′ ≡ length m) (ek : (n : ℕ) → key m′ n ≡ key m n) (es : (n : ℕ) → standing m′ n ≡ standing m n)
     (el : (n : ℕ) → n ≢ h → link m′ n ≡ link m n) (lh : link m′ h ≤ N * 2 + 1) where
   on-ne : (n : ℕ) → In n c → n ≢ h
   on-ne n j e = hh .off (rw e at j)
 
-  pub penned : Glob D N c m′
+  pub penned : Nodes D N c m′
   penned = record {
     size = rw size (g .size);
     zero = ek 1 ∙ g .zero;
@@ -276,7 +276,7 @@ module _ (D N lo hi : ℕ) (c m m′ : List ℕ) (h : ℕ) (g : Glob D N c m) (h
 
   pub penned-later : (v : ℕ) → Later D N v h c m c m′
   penned-later v = record {
-    prot = prot;
+    safe = safe;
     keys = λ n q. ek n;
     dead = λ n q d. el n (λ e. held-free N v lo hi c m h hh (rw e at q));
     root = λ n j e. j;
@@ -284,12 +284,12 @@ module _ (D N lo hi : ℕ) (c m m′ : List ℕ) (h : ℕ) (g : Glob D N c m) (h
     has = λ lo′ hi′ n ne q. ek n;
   }
     where
-      prot : (n : ℕ) → Prot N v c m n → Prot N v c m′ n
-      prot n (inl j) = inl j
-      prot n (inr w) = inr (record { fits = w .fits; small = rw (es n) (w .small); has = rw (es n) (w .has) })
+      safe : (n : ℕ) → Safe N v c m n → Safe N v c m′ n
+      safe n (inl j) = inl j
+      safe n (inr w) = inr (record { fits = w .fits; small = rw (es n) (w .small); has = rw (es n) (w .has) })
 
 -- I1, B4: a free node is taken
-module _ (D N : ℕ) (c m m′ : List ℕ) (h : ℕ) (g : Glob D N c m) (free : standing m h ≡ 0)
+module _ (D N : ℕ) (c m m′ : List ℕ) (h : ℕ) (g : Nodes D N c m) (free : standing m h ≡ 0)
     (size : length m′ ≡ length m) (ek : (n : ℕ) → n ≢ h → key m′ n ≡ key m n) (es : (n : ℕ) → n ≢ h → standing m′ n ≡ standing m n)
     (el : (n : ℕ) → link m′ n ≡ link m n) (sh : standing m′ h ≡ TAKEN) where
   pub new-ne : (n : ℕ) → In n c → n ≢ h
@@ -298,11 +298,11 @@ module _ (D N : ℕ) (c m m′ : List ℕ) (h : ℕ) (g : Glob D N c m) (free : 
   wait-ne : (v n : ℕ) → Waits N v m n → n ≢ h
   wait-ne v n w e = omega (arith, bit-some v (standing m n) (w .has), rw (← e) at free)
 
-  prot-ne : (v n : ℕ) → Prot N v c m n → n ≢ h
-  prot-ne v n (inl j) = new-ne n j
-  prot-ne v n (inr w) = wait-ne v n w
+  safe-ne : (v n : ℕ) → Safe N v c m n → n ≢ h
+  safe-ne v n (inl j) = new-ne n j
+  safe-ne v n (inr w) = wait-ne v n w
 
-  pub took : Glob D N c m′
+  pub took : Nodes D N c m′
   took = record {
     size = rw size (g .size);
     zero = ek 1 (new-ne 1 (root-on m 0 1 c (λ e. omega arith) (g .walk))) ∙ g .zero;
@@ -327,8 +327,8 @@ module _ (D N : ℕ) (c m m′ : List ℕ) (h : ℕ) (g : Glob D N c m) (free : 
 
   pub took-later : (v o : ℕ) → Later D N v o c m c m′
   took-later v o = record {
-    prot = prot;
-    keys = λ n q. ek n (prot-ne v n q);
+    safe = safe;
+    keys = λ n q. ek n (safe-ne v n q);
     dead = λ n q d. el n;
     root = λ n j e. j;
     held = λ lo hi n ne b q. record { low = q .low; high = q .high; is = es n (held-ne lo hi n q) ∙ q .is; off = q .off };
@@ -338,18 +338,18 @@ module _ (D N : ℕ) (c m m′ : List ℕ) (h : ℕ) (g : Glob D N c m) (free : 
       held-ne : (lo hi n : ℕ) → Held lo hi c m n → n ≢ h
       held-ne lo hi n q e = omega (arith, q .is, rw (← e) at free)
 
-      prot : (n : ℕ) → Prot N v c m n → Prot N v c m′ n
-      prot n (inl j) = inl j
-      prot n (inr w) = inr (record { fits = w .fits; small = rw (es n (wait-ne v n w)) (w .small); has = rw (es n (wait-ne v n w)) (w .has) })
+      safe : (n : ℕ) → Safe N v c m n → Safe N v c m′ n
+      safe n (inl j) = inl j
+      safe n (inr w) = inr (record { fits = w .fits; small = rw (es n (wait-ne v n w)) (w .small); has = rw (es n (wait-ne v n w)) (w .has) })
 
 -- a held node is free again
-module _ (D N lo hi : ℕ) (c m m′ : List ℕ) (h : ℕ) (g : Glob D N c m) (hh : Held lo hi c m h)
+module _ (D N lo hi : ℕ) (c m m′ : List ℕ) (h : ℕ) (g : Nodes D N c m) (hh : Held lo hi c m h)
     (size : length m′ ≡ length m) (ek : (n : ℕ) → key m′ n ≡ key m n) (es : (n : ℕ) → n ≢ h → standing m′ n ≡ standing m n)
     (el : (n : ℕ) → link m′ n ≡ link m n) (sh : standing m′ h ≡ 0) where
   free-ne : (n : ℕ) → In n c → n ≢ h
   free-ne n j e = hh .off (rw e at j)
 
-  pub freed : Glob D N c m′
+  pub freed : Nodes D N c m′
   freed = record {
     size = rw size (g .size);
     zero = ek 1 ∙ g .zero;
@@ -374,7 +374,7 @@ module _ (D N lo hi : ℕ) (c m m′ : List ℕ) (h : ℕ) (g : Glob D N c m) (h
 
   pub freed-later : (v : ℕ) → Later D N v h c m c m′
   freed-later v = record {
-    prot = prot;
+    safe = safe;
     keys = λ n q. ek n;
     dead = λ n q d. el n;
     root = λ n j e. j;
@@ -385,9 +385,9 @@ module _ (D N lo hi : ℕ) (c m m′ : List ℕ) (h : ℕ) (g : Glob D N c m) (h
       ne-h : (n : ℕ) → Waits N v m n → n ≢ h
       ne-h n w e = held-free N v lo hi c m h hh (inr (rw e at w))
 
-      prot : (n : ℕ) → Prot N v c m n → Prot N v c m′ n
-      prot n (inl j) = inl j
-      prot n (inr w) = inr (record { fits = w .fits; small = rw (es n (ne-h n w)) (w .small); has = rw (es n (ne-h n w)) (w .has) })
+      safe : (n : ℕ) → Safe N v c m n → Safe N v c m′ n
+      safe n (inl j) = inl j
+      safe n (inr w) = inr (record { fits = w .fits; small = rw (es n (ne-h n w)) (w .small); has = rw (es n (ne-h n w)) (w .has) })
 
 -- the sweep: worker w is waited for nowhere
 leave-kinds : (w s : ℕ) → (s < 65536) ⊎ (s ≡ TAKEN) → (leave w s < 65536) ⊎ (leave w s ≡ TAKEN)
@@ -398,13 +398,13 @@ pub leave-was : (w s : ℕ) → (s < 65536) ⊎ (s ≡ TAKEN) → 1 ≤ leave w 
 leave-was w s (inl a) b d = (omega (arith, leave-le w s), a)
 leave-was w s (inr e) b d = absurd (omega (arith, leave-taken w s (omega arith)))
 
-module _ (D N w : ℕ) (c m m′ : List ℕ) (g : Glob D N c m)
+module _ (D N w : ℕ) (c m m′ : List ℕ) (g : Nodes D N c m)
     (size : length m′ ≡ length m) (ek : (n : ℕ) → key m′ n ≡ key m n) (el : (n : ℕ) → link m′ n ≡ link m n)
     (es : (n : ℕ) → 1 ≤ n → n ≤ N → standing m′ n ≡ leave w (standing m n)) where
   pub stays-taken : (n : ℕ) → 1 ≤ n → n ≤ N → standing m n ≡ TAKEN → standing m′ n ≡ TAKEN
   stays-taken n a b e = es n a b ∙ leave-taken w (standing m n) (omega arith) ∙ e
 
-  pub swept : Glob D N c m′
+  pub swept : Nodes D N c m′
   swept = record {
     size = rw size (g .size);
     zero = ek 1 ∙ g .zero;
@@ -432,7 +432,7 @@ module _ (D N w : ℕ) (c m m′ : List ℕ) (g : Glob D N c m)
 
   pub swept-later : (v o : ℕ) → v ≢ w → Later D N v o c m c m′
   swept-later v o vw = record {
-    prot = prot;
+    safe = safe;
     keys = λ n q. ek n;
     dead = λ n q d. el n;
     root = λ n j e. j;
@@ -440,10 +440,10 @@ module _ (D N w : ℕ) (c m m′ : List ℕ) (g : Glob D N c m)
     has = λ lo hi n ne q. ek n;
   }
     where
-      prot : (n : ℕ) → Prot N v c m n → Prot N v c m′ n
-      prot n (inl j) = inl j
-      prot n (inr x) =
-          let some : 1 ≤ n = omega (arith, prot-some D N c m g v n (inr x)) in
+      safe : (n : ℕ) → Safe N v c m n → Safe N v c m′ n
+      safe n (inl j) = inl j
+      safe n (inr x) =
+          let some : 1 ≤ n = omega (arith, safe-some D N c m g v n (inr x)) in
           let e : standing m′ n ≡ dropped w (standing m n) = es n some (x .fits) ∙ leave-set w (standing m n) (omega (arith, x .small)) in
           inr (record {
             fits = x .fits;

@@ -64,7 +64,7 @@ module _ (h : Header) (z n b v : ℕ) (c m : List ℕ) (P : ℕ → ℕ → ℕ 
 
   pub fact-headed : (x : Worker) → Fact h v c m P x → Fact (headed z n b h) v c m P x
   fact-headed x (inl e) = inl e
-  fact-headed x (inr f) = inr (record { spot = f .spot; place = f .place; sane = f .sane; held = f .held; dum = f .dum; at = at-headed (f .spot) x (f .at) })
+  fact-headed x (inr f) = inr (record { spot = f .spot; place = f .place; sane = f .sane; held = f .held; dummy-held = f .dummy-held; at = at-headed (f .spot) x (f .at) })
 
 -- ---- the values once a node is stored in a bucket
 abbrev pub valued : Stores → (ℕ → ℕ) → ℕ → ℕ
@@ -98,14 +98,14 @@ module _ {h : Header} {ws : List Worker} {Ps : Pasts} {w k d : ℕ} {c m : List 
     size = size;
     few = few;
     long = core .long;
-    glob = core .glob;
+    of-nodes = core .of-nodes;
     key-held = core .key-held;
-    dum-held = core .dum-held;
+    dummy-held = core .dummy-held;
     fact = λ v l ne. fact-headed h z n b v c m (Ps v) (recordOf ws v) (core .fact v l ne);
     bits = λ v l ne. rw (bits v l ne) (core .bits v l ne);
     apart = core .apart;
     key-mine = core .key-mine;
-    dum-mine = core .dum-mine;
+    dummy-mine = core .dummy-mine;
     whole = core .whole;
     waits = waits;
     keyed = core .keyed;
@@ -128,14 +128,14 @@ module _ {h : Header} {ws : List Worker} {Ps : Pasts} {w k d : ℕ} {c m : List 
     size = core .size;
     few = core .few;
     long = core .long;
-    glob = core .glob;
+    of-nodes = core .of-nodes;
     key-held = core .key-held;
-    dum-held = core .dum-held;
+    dummy-held = core .dummy-held;
     fact = core .fact;
     bits = core .bits;
     apart = core .apart;
     key-mine = core .key-mine;
-    dum-mine = core .dum-mine;
+    dummy-mine = core .dummy-mine;
     whole = core .whole;
     waits = core .waits;
     keyed = core .keyed;
@@ -151,14 +151,14 @@ module _ {h : Header} {ws : List Worker} {Ps : Pasts} {w k d : ℕ} {c m : List 
     size = core .size;
     few = core .few;
     long = core .long;
-    glob = core .glob;
+    of-nodes = core .of-nodes;
     key-held = core .key-held;
-    dum-held = core .dum-held;
+    dummy-held = core .dummy-held;
     fact = core .fact;
     bits = core .bits;
     apart = core .apart;
     key-mine = core .key-mine;
-    dum-mine = core .dum-mine;
+    dummy-mine = core .dummy-mine;
     whole = core .whole;
     waits = core .waits;
     keyed = core .keyed;
@@ -190,16 +190,16 @@ module _ {h : Header} {ws : List Worker} {Ps : Pasts} {w : ℕ} {c m : List ℕ}
   sl n = sweep-word w (nodesOf h) m n LINK (omega arith) (omega arith)
 
   ss : (n : ℕ) → 1 ≤ n → n ≤ nodesOf h → standing m′ n ≡ leave w (standing m n)
-  ss n a b = sweep-standing w (nodesOf h) m n a b (omega (arith, core .glob .size))
+  ss n a b = sweep-standing w (nodesOf h) m n a b (omega (arith, core .of-nodes .size))
 
   was-taken : (n : ℕ) → n ≤ nodesOf h → standing m′ n ≡ TAKEN → standing m n ≡ TAKEN
   was-taken zero b t = let z : standing m′ 0 ≡ 0 = nothing m′ 2 in absurd (omega arith)
-  was-taken (suc n) b t = ⊎-elim (λ a. absurd (omega (arith, leave-le w (standing m (suc n)), ss (suc n) (omega arith) b))) (λ e. e) (core .glob .kinds (suc n) b)
+  was-taken (suc n) b t = ⊎-elim (λ a. absurd (omega (arith, leave-le w (standing m (suc n)), ss (suc n) (omega arith) b))) (λ e. e) (core .of-nodes .kinds (suc n) b)
 
   -- who is waited for afterwards was before, and is not w
   still : (n v : ℕ) → n ≤ nodesOf h → standing m′ n < 65536 → bit v (standing m′ n) ≡ 1 → (bit v (h .busy) ≡ 1) × (v ≢ w)
   still zero v b a e = let z : standing m′ 0 ≡ 0 = nothing m′ 2 in absurd (omega (arith, bit-some v (standing m′ 0) e))
-  still (suc n) v b a e = ⊎-elim set taken (core .glob .kinds (suc n) b)
+  still (suc n) v b a e = ⊎-elim set taken (core .of-nodes .kinds (suc n) b)
     where
       is : standing m′ (suc n) ≡ leave w (standing m (suc n))
       is = ss (suc n) (omega arith) b
@@ -222,18 +222,18 @@ module _ {h : Header} {ws : List Worker} {Ps : Pasts} {w : ℕ} {c m : List ℕ}
   keyed zero b lo hi = absurd (omega (arith, nothing m′ 2))
   keyed (suc n) b lo hi =
       let e = ss (suc n) (omega arith) b in
-      let q = leave-was w (standing m (suc n)) (core .glob .kinds (suc n) b) (rw e at lo) (rw e at hi) in
+      let q = leave-was w (standing m (suc n)) (core .of-nodes .kinds (suc n) b) (rw e at lo) (rw e at hi) in
       core .keyed (suc n) b (q .0) (q .1)
 
   pub sweeps : Core h ws Ps w 0 0 c m′ β
   sweeps = shift core {g = 0} (record {
-    glob = swept (dummiesOf h) (nodesOf h) w c m m′ (core .glob) (sweep-length w (nodesOf h) m) sk sl ss;
-    later = λ v ne t. swept-later (dummiesOf h) (nodesOf h) w c m m′ (core .glob) (sweep-length w (nodesOf h) m) sk sl ss v 0 ne;
+    of-nodes = swept (dummiesOf h) (nodesOf h) w c m m′ (core .of-nodes) (sweep-length w (nodesOf h) m) sk sl ss;
+    later = λ v ne t. swept-later (dummiesOf h) (nodesOf h) w c m m′ (core .of-nodes) (sweep-length w (nodesOf h) m) sk sl ss v 0 ne;
     touch = inl refl;
     key-held = λ y. absurd (y refl);
-    dum-held = λ y. absurd (y refl);
+    dummy-held = λ y. absurd (y refl);
     key-from = inl refl;
-    dum-from = inl refl;
+    dummy-from = inl refl;
     was = λ n b t. inl (was-taken n b t);
     stays = λ n t i. i;
     own = λ n t o. inr o;
@@ -261,7 +261,7 @@ module _ {h : Header} {ws : List Worker} {Ps : Pasts} {w k d : ℕ} {c m : List 
   ends lt Qs up = back quiet lt idle Qs up (inl refl) (inl (refl, dropped-same w (h .busy))) idle-key idle-dummy
 
   pub ends-same : (j : ℕ) → Same m (sweep w (nodesOf h) freedBoth) j
-  ends-same = unchanged (dummiesOf h) (nodesOf h) c m c (sweep w (nodesOf h) freedBoth) (core .glob) (quiet .glob)
+  ends-same = unchanged (dummiesOf h) (nodesOf h) c m c (sweep w (nodesOf h) freedBoth) (core .of-nodes) (quiet .of-nodes)
       (λ n i. ek n) (λ n i l. (i, rw (el n) l)) (λ n i l. (i, rw (el n) at l))
     where
       ek : (n : ℕ) → key (sweep w (nodesOf h) freedBoth) n ≡ key m n
@@ -305,8 +305,8 @@ module _ {h : Header} {ws : List Worker} {Ps : Pasts} {c m : List ℕ} {β : ℕ
     begins : Busy h′ w c m Q (begun kind k)
     unfolding begun Fits
     begins = by-eq (λ (p : ℕ). Fits p) kind INSERT
-        (λ e. record { spot = i1; place = refl; sane = sane I1; held = λ z. absurd (z refl); dum = λ z. absurd (z refl); at = e })
-        (λ ne. record { spot = sz; place = refl; sane = sane SZ; held = λ z. absurd (z (by-eq (λ (y : ℕ). y ≡ 0) kind INSERT (λ e. absurd (ne e)) (λ _. refl))); dum = λ z. absurd (z refl); at = λ e. absurd (ne e) })
+        (λ e. record { spot = i1; place = refl; sane = sane I1; held = λ z. absurd (z refl); dummy-held = λ z. absurd (z refl); at = e })
+        (λ ne. record { spot = sz; place = refl; sane = sane SZ; held = λ z. absurd (z (by-eq (λ (y : ℕ). y ≡ 0) kind INSERT (λ e. absurd (ne e)) (λ _. refl))); dummy-held = λ z. absurd (z refl); at = λ e. absurd (ne e) })
       where
         some : 0 < h .m
         some = omega (arith, inv .limits .buckets .0)

@@ -27,9 +27,9 @@ pub record Waits (N v : ℕ) (m : List ℕ) (n : ℕ) : Type 0 where
   pub small : standing m n < 65536
   pub has : bit v (standing m n) ≡ 1
 
--- node n is not reused while v works: it is on the chain, or it waits for v
-abbrev pub Prot : ℕ → ℕ → List ℕ → List ℕ → ℕ → Type 0
-Prot N v c m n = In n c ⊎ Waits N v m n
+-- node n is safe for v: it is not reused while v works, since it is on the chain, or waits for v
+abbrev pub Safe : ℕ → ℕ → List ℕ → List ℕ → ℕ → Type 0
+Safe N v c m n = In n c ⊎ Waits N v m n
 
 -- node n, above lo and up to hi, is taken and off the chain: in the hands of a worker
 pub record Held (lo hi : ℕ) (c m : List ℕ) (n : ℕ) : Type 0 where
@@ -43,7 +43,7 @@ pub record Own (lo hi : ℕ) (c m : List ℕ) (n k : ℕ) : Type 0 where
   pub has : key m n ≡ k
 
 -- what holds of the nodes alone; c is the chain, nodes up to D are dummies, those up to N keys
-pub record Glob (D N : ℕ) (c m : List ℕ) : Type 0 where
+pub record Nodes (D N : ℕ) (c m : List ℕ) : Type 0 where
   pub size : N * 3 ≤ length m
   pub walk : Walk m 0 1 c
   pub zero : key m 1 ≡ 0
@@ -83,10 +83,10 @@ pub record Way (k wanted making : ℕ) : Type 0 where
   pub path : onPath wanted making ≡ true
 
 -- what a search is for
-pub data Aim (errand kind k wanted making held dum : ℕ) : Type 0 where
-  forKey : errand ≡ KEY → Has kind held → Aim errand kind k wanted making held dum
-  forDummy : errand ≡ DUMMY → Has kind held → Way k wanted making → dum ≢ 0 → Aim errand kind k wanted making held dum
-  forExtra : errand ≡ EXTRA → kind ≡ DELETE → Aim errand kind k wanted making held dum
+pub data Aim (errand kind k wanted making held dummy-node : ℕ) : Type 0 where
+  forKey : errand ≡ KEY → Has kind held → Aim errand kind k wanted making held dummy-node
+  forDummy : errand ≡ DUMMY → Has kind held → Way k wanted making → dummy-node ≢ 0 → Aim errand kind k wanted making held dummy-node
+  forExtra : errand ≡ EXTRA → kind ≡ DELETE → Aim errand kind k wanted making held dummy-node
 
 -- where a search starts
 pub record Start (D : ℕ) (c m : List ℕ) (start most : ℕ) : Type 0 where
@@ -95,16 +95,16 @@ pub record Start (D : ℕ) (c m : List ℕ) (start most : ℕ) : Type 0 where
   pub low : key m start < most
 
 pub record Prev (N v : ℕ) (c m : List ℕ) (prev most : ℕ) : Type 0 where
-  pub safe : Prot N v c m prev
+  pub safe : Safe N v c m prev
   pub low : key m prev < most
 
 pub record Beyond (N v : ℕ) (c m : List ℕ) (cur most : ℕ) : Type 0 where
-  pub safe : cur ≢ 0 → Prot N v c m cur
+  pub safe : cur ≢ 0 → Safe N v c m cur
   pub high : cur ≢ 0 → most < key m cur
 
 -- what F2 read; P says that at an own step of the operation the node was on the chain with this next node, unmarked, and this split key
 pub record Read (N v : ℕ) (c m : List ℕ) (P : ℕ → ℕ → ℕ → Type 0) (cur next : ℕ) (marked : Bool) : Type 0 where
-  pub live : marked ≡ false → next ≢ 0 → Prot N v c m next
+  pub live : marked ≡ false → next ≢ 0 → Safe N v c m next
   pub was : marked ≡ false → P cur next (key m cur)
   pub dead : marked ≡ true → link m cur ≡ next * 2 + 1
 
@@ -157,16 +157,16 @@ module _ (h : Header) (v : ℕ) (c m : List ℕ) (P : ℕ → ℕ → ℕ → Ty
   At b2 x = Has (x .kind) (x .held) × Way (x .key) (x .wanted) (x .making)
   At b4 x = Has (x .kind) (x .held) × Way (x .key) (x .wanted) (x .making) × Start D c m (x .start) (dummy (x .making))
   At f1 x = Searches x
-  At f2 x = Passes x × Prot N v c m (x .cur)
-  At f3 x = Passes x × Prot N v c m (x .cur) × Read N v c m P (x .cur) (x .next) (x .marked)
-  At f4 x = Passes x × Prot N v c m (x .cur) × (link m (x .cur) ≡ x .next * 2 + 1)
+  At f2 x = Passes x × Safe N v c m (x .cur)
+  At f3 x = Passes x × Safe N v c m (x .cur) × Read N v c m P (x .cur) (x .next) (x .marked)
+  At f4 x = Passes x × Safe N v c m (x .cur) × (link m (x .cur) ≡ x .next * 2 + 1)
   At l2 x = Passes x × Beyond N v c m (x .cur) (wantBy x) × ((x .errand ≡ DUMMY) ⊎ ((x .errand ≡ KEY) × (x .kind ≡ INSERT)))
   At b8 x = Has (x .kind) (x .held) × Way (x .key) (x .wanted) (x .making) × Root D c m (x .making) (x .dummy)
   At i8 x = x .kind ≡ INSERT
   At i9 x = (x .kind ≡ INSERT) × PowerFromTo 2 (h .m) (x .size)
   At i10 x = (x .kind ≡ INSERT) × PowerFromTo 2 (h .m) (x .size) × (x .size < h .m)
-  At d4a x = (x .kind ≡ DELETE) × (x .errand ≡ KEY) × Start D c m (x .start) (regular (x .key)) × Prot N v c m (x .prev) × Prot N v c m (x .cur) × (key m (x .cur) ≡ regular (x .key))
-  At d4b x = (x .kind ≡ DELETE) × Start D c m (x .start) (regular (x .key)) × Prot N v c m (x .prev) × Prot N v c m (x .cur) × (link m (x .cur) ≡ x .next * 2 + 1)
+  At d4a x = (x .kind ≡ DELETE) × (x .errand ≡ KEY) × Start D c m (x .start) (regular (x .key)) × Safe N v c m (x .prev) × Safe N v c m (x .cur) × (key m (x .cur) ≡ regular (x .key))
+  At d4b x = (x .kind ≡ DELETE) × Start D c m (x .start) (regular (x .key)) × Safe N v c m (x .prev) × Safe N v c m (x .cur) × (link m (x .cur) ≡ x .next * 2 + 1)
   At d6 x = x .kind ≡ DELETE
 
 -- every field of a busy record is in its range
@@ -201,31 +201,31 @@ keyOf d6 x = 0
 abbrev pub sought : Worker → ℕ
 sought x = pick (eqb (x .errand) DUMMY) (x .dummy) 0
 
-abbrev pub dumOf : Spot → Worker → ℕ
-dumOf i1 x = 0
-dumOf sz x = 0
-dumOf tb x = 0
-dumOf b2 x = 0
-dumOf b4 x = 0
-dumOf f1 x = sought x
-dumOf f2 x = sought x
-dumOf f3 x = sought x
-dumOf f4 x = sought x
-dumOf l2 x = sought x
-dumOf b8 x = 0
-dumOf i8 x = 0
-dumOf i9 x = 0
-dumOf i10 x = 0
-dumOf d4a x = 0
-dumOf d4b x = 0
-dumOf d6 x = 0
+abbrev pub dummyOf : Spot → Worker → ℕ
+dummyOf i1 x = 0
+dummyOf sz x = 0
+dummyOf tb x = 0
+dummyOf b2 x = 0
+dummyOf b4 x = 0
+dummyOf f1 x = sought x
+dummyOf f2 x = sought x
+dummyOf f3 x = sought x
+dummyOf f4 x = sought x
+dummyOf l2 x = sought x
+dummyOf b8 x = 0
+dummyOf i8 x = 0
+dummyOf i9 x = 0
+dummyOf i10 x = 0
+dummyOf d4a x = 0
+dummyOf d4b x = 0
+dummyOf d6 x = 0
 
 pub record Busy (h : Header) (v : ℕ) (c m : List ℕ) (P : ℕ → ℕ → ℕ → Type 0) (x : Worker) : Type 0 where
   pub spot : Spot
   pub place : x .place ≡ number spot
   pub sane : Sane h x
   pub held : keyOf spot x ≢ 0 → Own (dummiesOf h) (nodesOf h) c m (keyOf spot x) (regular (x .key))
-  pub dum : dumOf spot x ≢ 0 → Own 0 (dummiesOf h) c m (dumOf spot x) (dummy (x .making))
+  pub dummy-held : dummyOf spot x ≢ 0 → Own 0 (dummiesOf h) c m (dummyOf spot x) (dummy (x .making))
   pub at : At h v c m P spot x
 
 -- a worker is idle, with zeros, or busy
@@ -234,9 +234,9 @@ Fact h v c m P x = (x ≡ idle) ⊎ Busy h v c m P x
 
 -- what a step that has node g in hand leaves to worker v
 pub record Later (D N v g : ℕ) (c m c′ m′ : List ℕ) : Type 0 where
-  pub prot : (n : ℕ) → Prot N v c m n → Prot N v c′ m′ n
-  pub keys : (n : ℕ) → Prot N v c m n → key m′ n ≡ key m n
-  pub dead : (n : ℕ) → Prot N v c m n → mark m n ≡ 1 → link m′ n ≡ link m n
+  pub safe : (n : ℕ) → Safe N v c m n → Safe N v c′ m′ n
+  pub keys : (n : ℕ) → Safe N v c m n → key m′ n ≡ key m n
+  pub dead : (n : ℕ) → Safe N v c m n → mark m n ≡ 1 → link m′ n ≡ link m n
   pub root : (n : ℕ) → In n c → n ≤ D → In n c′
   pub held : (lo hi n : ℕ) → n ≢ g → hi ≤ N → Held lo hi c m n → Held lo hi c′ m′ n
   pub has : (lo hi n : ℕ) → n ≢ g → Held lo hi c m n → key m′ n ≡ key m n

@@ -127,7 +127,7 @@ module _ (l : Limits) (s : Shared) (f : First l s) (Ps : Pasts) where
     size = (omega arith, lim .buckets .0, (1, omega arith, refl));
     few = pow-pos (l .w);
     long = f .enough;
-    glob = record {
+    of-nodes = record {
       size = f .long;
       walk = record { is = refl; some = omega arith; low = omega arith; rest = rw (links 1 one) (omega arith) };
       zero = keys 1 one;
@@ -141,12 +141,12 @@ module _ (l : Limits) (s : Shared) (f : First l s) (Ps : Pasts) where
       links = λ n b. rw (links n b) (omega arith);
     };
     key-held = λ z. absurd (z refl);
-    dum-held = λ z. absurd (z refl);
+    dummy-held = λ z. absurd (z refl);
     fact = λ v lt ne. inl (rest v lt);
     bits = λ v lt ne. inl (rw (rest v lt) refl, bit-zero v);
     apart = λ u v a b p q ne. (λ z. absurd (z (rw (rest u a) idle-key)), λ z. absurd (z (rw (rest u a) idle-dummy)));
     key-mine = λ v lt ne z. absurd (z refl);
-    dum-mine = λ v lt ne z. absurd (z refl);
+    dummy-mine = λ v lt ne z. absurd (z refl);
     whole = λ n b t. wholes n t (cases n b);
     waits = λ n v b a e. absurd (waiting n v a e (cases n b));
     keyed = λ n b a s. absurd (lefts n a s (cases n b));

@@ -10,7 +10,7 @@ use Rattle.names.specs.Names.{SZ, F1, L2, B8, DUMMY, EXTRA, INSERT}
 use Rattle.header.specs.declared.Header.{Header}
 use Rattle.record.specs.declared.Worker.{Worker}
 use Rattle.record.specs.Worker.{idle, within, heldKey, heldDummy}
-use Rattle.story.proofs.Facts.{Spot, i1, sz, tb, b2, b4, f1, f2, f3, f4, l2, b8, i8, i9, i10, d4a, d4b, d6, number, Aim, forKey, forDummy, forExtra, AimOf, At, inHand, keyOf, dumOf, Busy}
+use Rattle.story.proofs.Facts.{Spot, i1, sz, tb, b2, b4, f1, f2, f3, f4, l2, b8, i8, i9, i10, d4a, d4b, d6, number, Aim, forKey, forDummy, forExtra, AimOf, At, inHand, keyOf, dummyOf, Busy}
 
 -- the two definitions over place, errand, kind and number
 abbrev kept : ℕ → ℕ → ℕ → ℕ → ℕ
@@ -38,11 +38,11 @@ none true b n = refl
 none false b n = refl
 
 -- during a search, by what it is for
-searching : (p e k wanted making key held dum : ℕ) → within SZ B8 p ≡ true → within F1 L2 p ≡ true → Aim e k key wanted making held dum → kept p e k held ≡ pick (eqb k INSERT) held 0
+searching : (p e k wanted making key held dummy-node : ℕ) → within SZ B8 p ≡ true → within F1 L2 p ≡ true → Aim e k key wanted making held dummy-node → kept p e k held ≡ pick (eqb k INSERT) held 0
 unfolding pick
-searching p e k wa ma key held dum s f (forKey q _) = rw (s, f, q) (same (eqb k INSERT) held)
-searching p e k wa ma key held dum s f (forDummy q _ _ _) = rw (s, f, q) (same (eqb k INSERT) held)
-searching p e k wa ma key held dum s f (forExtra q r) = rw (s, f, q, r)
+searching p e k wa ma key held dummy-node s f (forKey q _) = rw (s, f, q) (same (eqb k INSERT) held)
+searching p e k wa ma key held dummy-node s f (forDummy q _ _ _) = rw (s, f, q) (same (eqb k INSERT) held)
+searching p e k wa ma key held dummy-node s f (forExtra q r) = rw (s, f, q, r)
 
 aimed : (x : Worker) (p : ℕ) → x .place ≡ p → within SZ B8 p ≡ true → within F1 L2 p ≡ true → AimOf x → heldKey x ≡ inHand x
 aimed x p e s f a = key-by x p e ∙ searching p (x .errand) (x .kind) (x .wanted) (x .making) (x .key) (x .held) (x .dummy) s f a
@@ -67,7 +67,7 @@ module _ (h : Header) (v : ℕ) (c m : List ℕ) (P : ℕ → ℕ → ℕ → Ty
   key-at d4b e a = key-by x _ e ∙ none (eqb (x .kind) INSERT) _ (x .held)
   key-at d6 e a = key-by x _ e ∙ none (eqb (x .kind) INSERT) _ (x .held)
 
-  dummy-at : (p : Spot) → x .place ≡ number p → heldDummy x ≡ dumOf p x
+  dummy-at : (p : Spot) → x .place ≡ number p → heldDummy x ≡ dummyOf p x
   unfolding pick
   dummy-at i1 e = dummy-by x _ e
   dummy-at sz e = dummy-by x _ e
@@ -90,7 +90,7 @@ module _ (h : Header) (v : ℕ) (c m : List ℕ) (P : ℕ → ℕ → ℕ → Ty
   pub key-is : (b : Busy h v c m P x) → heldKey x ≡ keyOf (b .spot) x
   key-is b = key-at (b .spot) (b .place) (b .at)
 
-  pub dummy-is : (b : Busy h v c m P x) → heldDummy x ≡ dumOf (b .spot) x
+  pub dummy-is : (b : Busy h v c m P x) → heldDummy x ≡ dummyOf (b .spot) x
   dummy-is b = dummy-at (b .spot) (b .place)
 
 -- an idle record holds nothing

@@ -20,14 +20,14 @@ use Rattle.story.specs.Story.{tallied}
 use Rattle.story.proofs.Registers.{Change}
 use Rattle.slots.proofs.Distinct.{without, Distinct, was-in, stays-in, still-distinct, gone, one-less, pigeonhole}
 use Rattle.story.proofs.Chain.{on-in, some-on}
-use Rattle.story.proofs.Facts.{Glob, Fact}
+use Rattle.story.proofs.Facts.{Nodes, Fact}
 use Rattle.story.proofs.Steps.{tookAt, Turned}
 use Rattle.story.proofs.Tally.{one}
 use Rattle.story.proofs.Calls.{Tale, refused, begins, goes, ends}
 use Rattle.story.proofs.Theorem.{Past, good, made-at, changes, none-yet}
 
 -- ---- the nodes of a list of registered keys
-module _ (D N : ℕ) (c m : List ℕ) (g : Glob D N c m) where
+module _ (D N : ℕ) (c m : List ℕ) (g : Nodes D N c m) where
   nodes : (ks : List ℕ) → ((k : ℕ) → In k ks → Registered m k) → List ℕ
   nodes [] f = []
   nodes (k ∷ ks) f = f k (here refl) .node ∷ nodes ks (λ j i. f j (there i))
@@ -156,5 +156,5 @@ pub bounded : (r : Trace) (i : ℕ) → (removals r i ≤ additions r i) × (add
 bounded r i =
     let o = listing r i in
     let g = good r i in
-    let b = no-more (dummiesOf (state r i .header)) (nodesOf (state r i .header)) (g .chain) (state r i .nodes) (g .inv .glob) (o .ks) (λ k p. o .is .there-all k p .0) (λ k p. o .is .there-all k p .1) (o .is .distinct) in
+    let b = no-more (dummiesOf (state r i .header)) (nodesOf (state r i .header)) (g .chain) (state r i .nodes) (g .inv .of-nodes) (o .ks) (λ k p. o .is .there-all k p .0) (λ k p. o .is .there-all k p .1) (o .is .distinct) in
     (omega (arith, o .is .total), omega (arith, o .is .total, b))

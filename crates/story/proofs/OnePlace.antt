@@ -47,10 +47,10 @@ module _ (s : Shared) (Ps : Pasts) (c : List ℕ) (inv : InvOf s Ps c) (n : ℕ)
       (λ f. inv .apart u v (a .0) (b .0) (omega (arith, a .0)) (omega (arith, b .0)) ne .1 (λ z. omega (arith, e)) (e ∙ sym f)) (b .1)) (a .1))
 
   in-chain : On m n → In n c
-  in-chain o = on-in m c (inv .glob .walk) o
+  in-chain o = on-in m c (inv .of-nodes .walk) o
 
   on-taken : On m n → standing m n ≡ TAKEN
-  on-taken o = inv .glob .is n (in-chain o)
+  on-taken o = inv .of-nodes .is n (in-chain o)
 
   -- a node that is in two places is in one
   same-place : (p q : Where) → At s n p → At s n q → q ≡ p
@@ -72,14 +72,14 @@ module _ (s : Shared) (Ps : Pasts) (c : List ℕ) (inv : InvOf s Ps c) (n : ℕ)
   same-place (waiting t) (waiting u) a b = ap waiting (sym (b .0) ∙ a .0)
 
   somewhere : (p : Where) × At s n p
-  somewhere = ⊎-elim (λ l. set l (ℕ-discrete (standing m n) 0)) whole (inv .glob .kinds n high)
+  somewhere = ⊎-elim (λ l. set l (ℕ-discrete (standing m n) 0)) whole (inv .of-nodes .kinds n high)
     where
       set : standing m n < 65536 → Dec (standing m n ≡ 0) → (p : Where) × At s n p
       set l (yes e) = (free, e)
       set l (no ne) = (waiting (standing m n), (refl, omega (arith, ne), omega arith, λ v b. inv .waits n v high l b))
 
       whole : standing m n ≡ TAKEN → (p : Where) × At s n p
-      whole t = ⊎-elim (λ i. (chained, in-on m c (inv .glob .walk) i))
+      whole t = ⊎-elim (λ i. (chained, in-on m c (inv .of-nodes .walk) i))
           (⊎-elim (⊎-elim (λ e. absurd (omega arith)) (λ e. absurd (omega arith))) (λ h. (held (h .who), (h .real, h .has)))) (inv .whole n high t)
 
   pub exactly-one : (p : Where) × At s n p × ((q : Where) → At s n q → q ≡ p)

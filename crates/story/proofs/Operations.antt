@@ -35,10 +35,10 @@ use Rattle.register.specs.Events.{Event, nothing, added}
 use Rattle.story.proofs.Chain.{putAfter, cutAfter, put-new}
 use Rattle.story.proofs.Memory.{key-of-link}
 use Rattle.story.proofs.Facts as F
-use Rattle.story.proofs.Facts.{Glob, Held, Root, Way, forKey, forDummy, forExtra, AimOf, Later}
+use Rattle.story.proofs.Facts.{Nodes, Held, Root, Way, forKey, forDummy, forExtra, AimOf, Later}
 use Rattle.story.proofs.Stable as st
 use Rattle.story.proofs.Core.{Pasts}
-use Rattle.story.proofs.Effects.{live-on, prot-fits, prot-some, held-free}
+use Rattle.story.proofs.Effects.{live-on, safe-fits, safe-some, held-free}
 use Rattle.story.proofs.Registers.{unmoved, regular-odd-all, dummy-is-even}
 use Rattle.story.proofs.Acts as A
 use Rattle.story.proofs.Ends.{recounted, resized}
@@ -90,8 +90,8 @@ module _ {h : Header} {ws : List Worker} {Ps Qs : Pasts} {w : ℕ} {c m : List �
   abbrev D : ℕ
   D = dummiesOf h
 
-  g₀ : Glob D N c m
-  g₀ = z .inv .glob
+  g₀ : Nodes D N c m
+  g₀ = z .inv .of-nodes
 
   -- yes to an insert or a delete that took effect
   did : x .kind ≢ FIND → Told z true Yes
@@ -125,9 +125,9 @@ module _ {h : Header} {ws : List Worker} {Ps Qs : Pasts} {w : ℕ} {c m : List �
           place = refl;
           sane = (s .sane .0, s .sane .1, s .sane .2, s .sane .3, s .sane .4, s .sane .5, s .sane .6, s .sane .7, s .sane .8, s .sane .9, f .1, s .sane .11);
           key-same = some-hand (withHeld n x) b;
-          dum-same = sym (s .dum);
+          dummy-same = sym (s .dummy-hand);
           key-has = λ y. A.take-key-is (core z) n (regular (x .key)) (f .2) some (f .1);
-          dum-has = λ y. absurd (y (s .dum));
+          dummy-has = λ y. absurd (y (s .dummy-hand));
           at = λ _. ne;
         };
         change = A.take-same (core z) n (regular (x .key)) (f .2) some (f .1);
@@ -144,7 +144,7 @@ module _ {h : Header} {ws : List Worker} {Ps Qs : Pasts} {w : ℕ} {c m : List �
 
   pub i8-good : Stands z F.i8 → F.At h w c m (Ps w) F.i8 x → Good z true (i8 (seen h x 0 0))
   unfolding i8
-  i8-good s b = looks z true F.i8 s (s .dum) F.i9 (to I9 (withSize (h .size) x)) refl (s .sane) (sym (s .hand)) refl refl refl (b, z .inv .size) refl
+  i8-good s b = looks z true F.i8 s (s .dummy-hand) F.i9 (to I9 (withSize (h .size) x)) refl (s .sane) (sym (s .hand)) refl refl refl (b, z .inv .size) refl
 
   -- I9: the count, and by the load test the size
   pub i9-good : Stands z F.i9 → F.At h w c m (Ps w) F.i9 x → Good z true (i9 (seen h x 0 0))
@@ -160,9 +160,9 @@ module _ {h : Header} {ws : List Worker} {Ps Qs : Pasts} {w : ℕ} {c m : List �
           place = refl;
           sane = s .sane;
           key-same = sym (s .hand);
-          dum-same = sym (s .dum);
+          dummy-same = sym (s .dummy-hand);
           key-has = s .key-has;
-          dum-has = s .dum-has;
+          dummy-has = s .dummy-has;
           at = (b .0, b .1, doubles-below h (x .size) _ t);
         };
         change = unmoved;
@@ -188,9 +188,9 @@ module _ {h : Header} {ws : List Worker} {Ps Qs : Pasts} {w : ℕ} {c m : List �
   -- D4a: cur is marked
   pub d4a-good : Stands z F.d4a → F.At h w c m (Ps w) F.d4a x → Good z false (d4a (seen h x (link m (x .cur)) 0))
   unfolding d4a pick
-  d4a-good s b = past (Good z false) _ _ (sound-link h x (x .cur) (link m (x .cur)) 0 (prot-some D N c m g₀ w (x .cur) (b .4)) (g₀ .links (x .cur) (prot-fits D N c m g₀ w (x .cur) (b .4))))
+  d4a-good s b = past (Good z false) _ _ (sound-link h x (x .cur) (link m (x .cur)) 0 (safe-some D N c m g₀ w (x .cur) (b .4)) (g₀ .links (x .cur) (safe-fits D N c m g₀ w (x .cur) (b .4))))
       (by-bool (Good z false) (isTo (link m (x .cur)) (x .next)) (λ t. marks (isTo-true (link m (x .cur)) (x .next) t))
-      (λ _. looks z false F.d4a s (s .dum) F.f1 (to F1 (withErrand KEY x)) refl
+      (λ _. looks z false F.d4a s (s .dummy-hand) F.f1 (to F1 (withErrand KEY x)) refl
       (s .sane .0, s .sane .1, omega arith, s .sane .3, s .sane .4, s .sane .5, s .sane .6, s .sane .7, s .sane .8, s .sane .9, s .sane .10, s .sane .11)
       (no-hand x ni ∙ sym (s .hand)) refl refl refl (forKey refl (λ k. absurd (ni k)), b .2) refl))
     where
@@ -208,10 +208,10 @@ module _ {h : Header} {ws : List Worker} {Ps Qs : Pasts} {w : ℕ} {c m : List �
           place = refl;
           sane = s .sane;
           key-same = sym (s .hand);
-          dum-same = sym (s .dum);
+          dummy-same = sym (s .dummy-hand);
           key-has = λ y. absurd (y (s .hand));
-          dum-has = λ y. absurd (y (s .dum));
-          at = (b .0, st.start later (b .2), later .prot (x .prev) (b .3), later .prot (x .cur) (b .4), A.mark-link (core z) (x .cur) (x .next) i e sort);
+          dummy-has = λ y. absurd (y (s .dummy-hand));
+          at = (b .0, st.start later (b .2), later .safe (x .prev) (b .3), later .safe (x .cur) (b .4), A.mark-link (core z) (x .cur) (x .next) i e sort);
         };
         change = A.mark-removes (core z) (x .cur) (x .next) i e sort (x .key) (b .5) (s .sane .3);
         kind = refl;
@@ -231,10 +231,10 @@ module _ {h : Header} {ws : List Worker} {Ps Qs : Pasts} {w : ℕ} {c m : List �
   -- D4b: the marked node goes off the chain, or one search more takes it off
   pub d4b-good : Stands z F.d4b → F.At h w c m (Ps w) F.d4b x → Good z true (d4b (seen h x (link m (x .prev)) 0))
   unfolding d4b pick
-  d4b-good s b = past (Good z true) _ _ (sound-link h x (x .prev) (link m (x .prev)) 0 (prot-some D N c m g₀ w (x .prev) (b .2)) (g₀ .links (x .prev) (prot-fits D N c m g₀ w (x .prev) (b .2))))
+  d4b-good s b = past (Good z true) _ _ (sound-link h x (x .prev) (link m (x .prev)) 0 (safe-some D N c m g₀ w (x .prev) (b .2)) (g₀ .links (x .prev) (safe-fits D N c m g₀ w (x .prev) (b .2))))
       (by-bool (Good z true) (isTo (link m (x .prev)) (x .cur))
       (λ t. past (Good z true) _ _ (ne-eqb (x .cur) 0 some) (cuts (isTo-true (link m (x .prev)) (x .cur) t)))
-      (λ _. looks z true F.d4b s (s .dum) F.f1 (to F1 (withErrand EXTRA x)) refl
+      (λ _. looks z true F.d4b s (s .dummy-hand) F.f1 (to F1 (withErrand EXTRA x)) refl
       (s .sane .0, s .sane .1, omega arith, s .sane .3, s .sane .4, s .sane .5, s .sane .6, s .sane .7, s .sane .8, s .sane .9, s .sane .10, s .sane .11)
       (no-hand x ni ∙ sym (s .hand)) refl refl refl (forExtra refl (b .0), b .1) refl))
     where
@@ -242,7 +242,7 @@ module _ {h : Header} {ws : List Worker} {Ps Qs : Pasts} {w : ℕ} {c m : List �
       ni k = omega (arith, b .0)
 
       some : x .cur ≢ 0
-      some = prot-some D N c m g₀ w (x .cur) (b .3)
+      some = safe-some D N c m g₀ w (x .cur) (b .3)
 
       cuts : link m (x .prev) ≡ x .cur * 2 → Good z true (Going (to D6 x) (Unlink (x .prev) (x .next) (x .cur) (h .busy)))
       cuts e = record {
@@ -255,9 +255,9 @@ module _ {h : Header} {ws : List Worker} {Ps Qs : Pasts} {w : ℕ} {c m : List �
           place = refl;
           sane = s .sane;
           key-same = sym (s .hand);
-          dum-same = sym (s .dum);
+          dummy-same = sym (s .dummy-hand);
           key-has = λ y. absurd (y (s .hand));
-          dum-has = λ y. absurd (y (s .dum));
+          dummy-has = λ y. absurd (y (s .dummy-hand));
           at = b .0;
         };
         change = A.unlink-same (core z) (x .prev) (x .cur) (x .next) i e some (b .4);
@@ -272,10 +272,10 @@ module _ {h : Header} {ws : List Worker} {Ps Qs : Pasts} {w : ℕ} {c m : List �
   -- ---- L2: the node in hand goes on the chain between prev and cur
   module _ (s : Stands z F.l2) (b : F.At h w c m (Ps w) F.l2 x) where
     pf : x .prev ≢ 0
-    pf = prot-some D N c m g₀ w (x .prev) (b .0 .1 .safe)
+    pf = safe-some D N c m g₀ w (x .prev) (b .0 .1 .safe)
 
     prev-fits : x .prev ≤ N
-    prev-fits = prot-fits D N c m g₀ w (x .prev) (b .0 .1 .safe)
+    prev-fits = safe-fits D N c m g₀ w (x .prev) (b .0 .1 .safe)
 
     -- the node n, held, is the one that is to be placed
     module _ (n lo hi : ℕ) (is : heldFor x ≡ n) (hh : Held lo hi c m n) (bound : hi ≤ N) (touch : (n ≡ heldKey x) ⊎ (n ≡ heldDummy x)) where
@@ -300,9 +300,9 @@ module _ {h : Header} {ws : List Worker} {Ps Qs : Pasts} {w : ℕ} {c m : List �
           place = refl;
           sane = s .sane;
           key-same = sym (s .hand);
-          dum-same = sym (s .dum);
+          dummy-same = sym (s .dummy-hand);
           key-has = λ y. key-of-link m n (linkTo (x .cur) false) (heldKey x) ∙ s .key-has y;
-          dum-has = λ y. key-of-link m n (linkTo (x .cur) false) (heldDummy x) ∙ s .dum-has y;
+          dummy-has = λ y. key-of-link m n (linkTo (x .cur) false) (heldDummy x) ∙ s .dummy-has y;
           at = (b .0 .0 .0, st.start (A.aim-later (core z) n (x .cur) lo hi hh bound (s .sane .8) w) (b .0 .0 .1));
         };
         change = A.aim-same (core z) n (x .cur) lo hi hh bound (s .sane .8);
@@ -328,7 +328,7 @@ module _ {h : Header} {ws : List Worker} {Ps Qs : Pasts} {w : ℕ} {c m : List �
         n = heldDummy x
 
         is : n ≡ x .dummy
-        is = s .dum ∙ some-sought x q
+        is = s .dummy-hand ∙ some-sought x q
 
         some : n ≢ 0
         some e = a .2 (sym is ∙ e)
@@ -337,7 +337,7 @@ module _ {h : Header} {ws : List Worker} {Ps Qs : Pasts} {w : ℕ} {c m : List �
         for-dummy q = dummy-for x q ∙ sym is
 
         hh : Held 0 D c m n
-        hh = core z .dum-held some
+        hh = core z .dummy-held some
 
         most : F.want (x .errand) (x .making) (x .key) ≡ dummy (x .making)
         most = want-dummy (x .errand) (x .making) (x .key) q
@@ -361,7 +361,7 @@ module _ {h : Header} {ws : List Worker} {Ps Qs : Pasts} {w : ℕ} {c m : List �
             p = put (put m n LINK (linkTo (x .cur) false)) (x .prev) LINK (linkTo n false)
 
             pk : (j : ℕ) → key p j ≡ key m j
-            pk = A.place-key-is (core z) n (x .cur) 0 D hh (omega arith) (s .sane .8) (x .prev) (dummy (x .making)) i e (s .dum-has some) low high (λ _. record { bucket = x .making; real = s .sane .5; has = refl }) (λ l. absurd (omega (arith, hh .high)))
+            pk = A.place-key-is (core z) n (x .cur) 0 D hh (omega arith) (s .sane .8) (x .prev) (dummy (x .making)) i e (s .dummy-has some) low high (λ _. record { bucket = x .making; real = s .sane .5; has = refl }) (λ l. absurd (omega (arith, hh .high)))
 
             went : Went z (took F.l2 (x .errand)) (to B8 x) h p β nothing
             went = record {
@@ -369,17 +369,17 @@ module _ {h : Header} {ws : List Worker} {Ps Qs : Pasts} {w : ℕ} {c m : List �
               next = record {
                 k = heldKey x;
                 d = 0;
-                rest = A.place-dummy (core z) n (x .cur) 0 D hh (omega arith) (s .sane .8) (x .prev) (dummy (x .making)) i e (s .dum-has some) low high (λ _. record { bucket = x .making; real = s .sane .5; has = refl }) (λ l. absurd (omega (arith, hh .high))) refl some;
+                rest = A.place-dummy (core z) n (x .cur) 0 D hh (omega arith) (s .sane .8) (x .prev) (dummy (x .making)) i e (s .dummy-has some) low high (λ _. record { bucket = x .making; real = s .sane .5; has = refl }) (λ l. absurd (omega (arith, hh .high))) refl some;
                 spot = F.b8;
                 place = refl;
                 sane = s .sane;
                 key-same = sym (s .hand);
-                dum-same = refl;
+                dummy-same = refl;
                 key-has = λ y. pk (heldKey x) ∙ s .key-has y;
-                dum-has = λ y. absurd (y refl);
-                at = (a .0, a .1, subst (λ (v : ℕ). Root D (putAfter i n) p (x .making) v) is (record { on = put-new i n; sort = hh .high; has = pk n ∙ s .dum-has some }));
+                dummy-has = λ y. absurd (y refl);
+                at = (a .0, a .1, subst (λ (v : ℕ). Root D (putAfter i n) p (x .making) v) is (record { on = put-new i n; sort = hh .high; has = pk n ∙ s .dummy-has some }));
               };
-              change = λ j. A.place-same (core z) n (x .cur) 0 D hh (omega arith) (s .sane .8) (x .prev) (dummy (x .making)) i e (s .dum-has some) low high (λ _. record { bucket = x .making; real = s .sane .5; has = refl }) (λ l. absurd (omega (arith, hh .high)))
+              change = λ j. A.place-same (core z) n (x .cur) 0 D hh (omega arith) (s .sane .8) (x .prev) (dummy (x .making)) i e (s .dummy-has some) low high (λ _. record { bucket = x .making; real = s .sane .5; has = refl }) (λ l. absurd (omega (arith, hh .high)))
                   j (λ r. omega (arith, regular-odd-all j, is-even));
               kind = refl;
               same-key = refl;
@@ -438,9 +438,9 @@ module _ {h : Header} {ws : List Worker} {Ps Qs : Pasts} {w : ℕ} {c m : List �
                 place = refl;
                 sane = (s .sane .0, s .sane .1, s .sane .2, s .sane .3, s .sane .4, s .sane .5, s .sane .6, s .sane .7, s .sane .8, s .sane .9, omega arith, s .sane .11);
                 key-same = refl;
-                dum-same = sym (s .dum ∙ no-sought x nd);
+                dummy-same = sym (s .dummy-hand ∙ no-sought x nd);
                 key-has = λ y. absurd (y refl);
-                dum-has = λ y. absurd (y (s .dum ∙ no-sought x nd));
+                dummy-has = λ y. absurd (y (s .dummy-hand ∙ no-sought x nd));
                 at = kd;
               };
               change = A.place-adds (core z) n (x .cur) D N hh (omega arith) (s .sane .8) (x .prev) (regular (x .key)) i e (s .key-has some) low high (λ l. absurd (omega (arith, hh .low))) (λ _. regular-odd-all (x .key))

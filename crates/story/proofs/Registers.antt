@@ -12,7 +12,7 @@ use Rattle.names.specs.Names.{KEY-LIMIT}
 use Rattle.register.specs.Chain.{key, link, after, mark, On, Registered}
 use Rattle.register.specs.Events.{Event, nothing, added, removed}
 use Rattle.story.proofs.Chain.{putAfter, put-new, put-old, put-only, same-key, between, on-in, in-on}
-use Rattle.story.proofs.Facts.{Glob}
+use Rattle.story.proofs.Facts.{Nodes}
 
 -- a key is registered in the one as in the other
 pub record Same (a b : List ℕ) (k : ℕ) : Type 0 where
@@ -47,7 +47,7 @@ regular-odd-all k = rw (sym (cut k)) (omega (arith, regular-odd (k % 2147483648)
 pub dummy-is-even : (b : ℕ) → b < 2147483648 → dummy b % 2 ≡ 0
 dummy-is-even b l = omega (arith, dummy-even b l)
 
-module _ (D N : ℕ) (c m : List ℕ) (g : Glob D N c m) where
+module _ (D N : ℕ) (c m : List ℕ) (g : Nodes D N c m) where
   -- the node that has a registered key, on the chain that the invariant names
   pub on-it : {k : ℕ} (r : Registered m k) → In (r .node) c
   on-it r = on-in m c (g .walk) (r .on)
@@ -64,7 +64,7 @@ pub unmoved : {m : List ℕ} (j : ℕ) → Same m m j
 unmoved j = record { still = λ r. r; already = λ r. r }
 
 -- a key for which the unmarked nodes of the one chain are those of the other
-pub same-for : (D N : ℕ) (c m c′ m′ : List ℕ) (k : ℕ) → Glob D N c m → Glob D N c′ m′
+pub same-for : (D N : ℕ) (c m c′ m′ : List ℕ) (k : ℕ) → Nodes D N c m → Nodes D N c′ m′
     → ((n : ℕ) → In n c → key m n ≡ regular k → mark m n ≡ 0 → In n c′ × (mark m′ n ≡ 0) × (key m′ n ≡ regular k))
     → ((n : ℕ) → In n c′ → key m′ n ≡ regular k → mark m′ n ≡ 0 → In n c × (mark m n ≡ 0) × (key m n ≡ regular k)) → Same m m′ k
 same-for D N c m c′ m′ k g g′ to from = record {
@@ -75,14 +75,14 @@ same-for D N c m c′ m′ k g g′ to from = record {
 }
 
 -- the unmarked nodes of the one chain are those of the other, with their keys: nothing is added or removed
-pub unchanged : (D N : ℕ) (c m c′ m′ : List ℕ) → Glob D N c m → Glob D N c′ m′ → ((n : ℕ) → In n c → key m′ n ≡ key m n)
+pub unchanged : (D N : ℕ) (c m c′ m′ : List ℕ) → Nodes D N c m → Nodes D N c′ m′ → ((n : ℕ) → In n c → key m′ n ≡ key m n)
     → ((n : ℕ) → In n c → mark m n ≡ 0 → In n c′ × (mark m′ n ≡ 0)) → ((n : ℕ) → In n c′ → mark m′ n ≡ 0 → In n c × (mark m n ≡ 0)) → (k : ℕ) → Same m m′ k
 unchanged D N c m c′ m′ g g′ ek to from k = same-for D N c m c′ m′ k g g′
     (λ n i e l. let q = to n i l in (q .0, q .1, ek n i ∙ e))
     (λ n i e l. let q = from n i l in (q .0, q .1, sym (ek n (q .0)) ∙ e))
 
 -- L2: h is linked after p
-module _ (D N : ℕ) (c m m′ : List ℕ) (p h cur most : ℕ) (g : Glob D N c m) (i : In p c) (g′ : Glob D N (putAfter i h) m′) (ek : (n : ℕ) → key m′ n ≡ key m n)
+module _ (D N : ℕ) (c m m′ : List ℕ) (p h cur most : ℕ) (g : Nodes D N c m) (i : In p c) (g′ : Nodes D N (putAfter i h) m′) (ek : (n : ℕ) → key m′ n ≡ key m n)
     (el : (n : ℕ) → n ≢ p → n ≢ h → link m′ n ≡ link m n) (lp : link m′ p ≡ h * 2) (lh : link m′ h ≡ cur * 2) (was : link m p ≡ cur * 2)
     (off : In h c → ⊥) (kh : key m h ≡ most) where
   off-h : (n : ℕ) → In n c → n ≢ h
@@ -112,7 +112,7 @@ module _ (D N : ℕ) (c m m′ : List ℕ) (p h cur most : ℕ) (g : Glob D N c 
       np = rw was (omega arith)
 
 -- D4a: cur is marked
-module _ (D N : ℕ) (c m m′ : List ℕ) (cur nx k : ℕ) (g : Glob D N c m) (i : In cur c) (g′ : Glob D N c m′) (ek : (n : ℕ) → key m′ n ≡ key m n)
+module _ (D N : ℕ) (c m m′ : List ℕ) (cur nx k : ℕ) (g : Nodes D N c m) (i : In cur c) (g′ : Nodes D N c m′) (ek : (n : ℕ) → key m′ n ≡ key m n)
     (el : (n : ℕ) → n ≢ cur → link m′ n ≡ link m n) (lc : link m′ cur ≡ nx * 2 + 1) (was : link m cur ≡ nx * 2) (kc : key m cur ≡ regular k) (b : k ≤ KEY-LIMIT) where
   dead : (n : ℕ) → mark m′ n ≡ 0 → n ≡ cur → ⊥
   dead n l e = omega (arith, rw (e, lc) at l)

@@ -1,4 +1,4 @@
--- The places of a search: what is read of a protected unmarked node is read of the chain, so its neighbours bound the wanted split key.
+-- The places of a search: what is read of a safe unmarked node is read of the chain, so its neighbours bound the wanted split key.
 -- Assumes nothing.
 use mathlib.Core.Path.{_≡_, refl, sym, _∙_}
 use mathlib.Core.Logic.{_≢_, _⊎_, inl, inr}
@@ -32,10 +32,10 @@ use Rattle.story.proofs.Memory.{key-of-standing}
 use Rattle.story.specs.Trace.{ticked}
 use Rattle.story.proofs.Chain.{cutAfter, succ-in}
 use Rattle.story.proofs.Facts as F
-use Rattle.story.proofs.Facts.{Prot, Held, Glob, forKey, forDummy, forExtra, AimOf, Start, Beyond, Root, Sane, Searches, Passes, wantBy, inHand, sought, Later}
+use Rattle.story.proofs.Facts.{Safe, Held, Nodes, forKey, forDummy, forExtra, AimOf, Start, Beyond, Root, Sane, Searches, Passes, wantBy, inHand, sought, Later}
 use Rattle.story.proofs.Stable as st
 use Rattle.story.proofs.Core.{Pasts, Core}
-use Rattle.story.proofs.Effects.{same, live-on, prot-fits, prot-some, next-fits}
+use Rattle.story.proofs.Effects.{same, live-on, safe-fits, safe-some, next-fits}
 use Rattle.story.proofs.Registers.{Same, unmoved, gap, on, dummy-is-even}
 use Rattle.story.proofs.Acts.{free-dummy, free-same, unlink-later, unlink-prev, unlink-same, unlinks}
 use Rattle.story.proofs.Steps.{took, Ctx, me, core, Went, Present, Absent, Stands, looks, Told, Finished, Good, over, past, upon, seen, sound-link, want-is, even-sort}
@@ -72,7 +72,7 @@ or-none true b q = absurd (true≢false q)
 or-none false b q = q
 
 module _ {h : Header} {ws : List Worker} {Ps Qs : Pasts} {w : ℕ} {c m : List ℕ} {β : ℕ → ℕ} (z : Ctx h ws Ps Qs w c m β) (p₀ : F.Spot) (l : Stands z p₀)
-    (hand : heldKey (me z) ≡ inHand (me z)) (dum : heldDummy (me z) ≡ sought (me z)) where
+    (hand : heldKey (me z) ≡ inHand (me z)) (dummy-hand : heldDummy (me z) ≡ sought (me z)) where
   abbrev x : Worker
   x = me z
 
@@ -85,8 +85,8 @@ module _ {h : Header} {ws : List Worker} {Ps Qs : Pasts} {w : ℕ} {c m : List �
   abbrev tk : Bool
   tk = eqb (x .errand) EXTRA
 
-  g₀ : Glob D N c m
-  g₀ = z .inv .glob
+  g₀ : Nodes D N c m
+  g₀ = z .inv .of-nodes
 
   own : Later D N w 0 c m c m
   own = same D N w 0 c m
@@ -95,13 +95,13 @@ module _ {h : Header} {ws : List Worker} {Ps Qs : Pasts} {w : ℕ} {c m : List �
   record Onward (e : Effect) (c′ m′ : List ℕ) : Type 0 where
     rest : Core h ws Ps w (heldKey x) (heldDummy x) c′ m′ β
     key-is : heldKey x ≢ 0 → key m′ (heldKey x) ≡ regular (x .key)
-    dum-is : heldDummy x ≢ 0 → key m′ (heldDummy x) ≡ dummy (x .making)
+    dummy-is : heldDummy x ≢ 0 → key m′ (heldDummy x) ≡ dummy (x .making)
     unchanged : (j : ℕ) → Same m m′ j
     went : (y : Worker) → Went z tk y h m′ β nothing → Good z tk (Going y e)
     finished : (a : Answer) → Finished z tk a h m′ β nothing → Good z tk (Ended a e)
 
   still : Onward Nothing c m
-  still = record { rest = core z; key-is = l .key-has; dum-is = l .dum-has; unchanged = unmoved; went = λ y q. q; finished = λ a q. q }
+  still = record { rest = core z; key-is = l .key-has; dummy-is = l .dummy-has; unchanged = unmoved; went = λ y q. q; finished = λ a q. q }
 
   -- the search's end without the wanted split key
   module _ (e : Effect) (c′ m′ : List ℕ) (o : Onward e c′ m′) (prev cur : ℕ) (pf : prev ≤ N) (cf : cur ≤ N)
@@ -110,8 +110,8 @@ module _ {h : Header} {ws : List Worker} {Ps Qs : Pasts} {w : ℕ} {c m : List �
     y = withCur cur (withPrev prev x)
 
     -- on to a place of the same search
-    onward : (p : F.Spot) (q : ℕ) → q ≡ F.number p → F.keyOf p y ≡ heldKey x → F.dumOf p y ≡ heldDummy x → F.At h w c′ m′ (Qs w) p (ticked (to q y))
-        → took p (x .errand) ≡ tk → F.keyOf p (ticked (to q y)) ≡ F.keyOf p y → F.dumOf p (ticked (to q y)) ≡ F.dumOf p y → Good z tk (Going (to q y) e)
+    onward : (p : F.Spot) (q : ℕ) → q ≡ F.number p → F.keyOf p y ≡ heldKey x → F.dummyOf p y ≡ heldDummy x → F.At h w c′ m′ (Qs w) p (ticked (to q y))
+        → took p (x .errand) ≡ tk → F.keyOf p (ticked (to q y)) ≡ F.keyOf p y → F.dummyOf p (ticked (to q y)) ≡ F.dummyOf p y → Good z tk (Going (to q y) e)
     onward p q pl ek ed a t sk sd = o .went (to q y) (record {
       chain = c′;
       next = record {
@@ -122,9 +122,9 @@ module _ {h : Header} {ws : List Worker} {Ps Qs : Pasts} {w : ℕ} {c m : List �
         place = pl;
         sane = sane-at h x prev cur (l .sane) pf cf;
         key-same = sk ∙ ek;
-        dum-same = sd ∙ ed;
+        dummy-same = sd ∙ ed;
         key-has = o .key-is;
-        dum-has = o .dum-is;
+        dummy-has = o .dummy-is;
         at = a;
       };
       change = o .unchanged;
@@ -141,7 +141,7 @@ module _ {h : Header} {ws : List Worker} {Ps Qs : Pasts} {w : ℕ} {c m : List �
         G = Good z tk
 
         to-l2 : (x .errand ≡ DUMMY) ⊎ ((x .errand ≡ KEY) × (x .kind ≡ INSERT)) → G (Going (to L2 y) e)
-        to-l2 why = onward F.l2 L2 refl (sym hand) (sym dum) (b, far, why) refl refl refl
+        to-l2 why = onward F.l2 L2 refl (sym hand) (sym dummy-hand) (b, far, why) refl refl refl
 
         by-aim : AimOf x → G (pick (eqb (x .errand) EXTRA) (Going (to D6 y) e) (pick (eqb (x .errand) DUMMY || eqb (x .kind) INSERT) (Going (to L2 y) e) (Ended No e)))
         by-aim (forKey q hs) = past G _ _ (ne-eqb (x .errand) EXTRA (λ r. omega arith))
@@ -160,14 +160,14 @@ module _ {h : Header} {ws : List Worker} {Ps Qs : Pasts} {w : ℕ} {c m : List �
             (by-bool G (eqb (x .errand) DUMMY || eqb (x .kind) INSERT) (λ t. to-l2 (inl q))
             (λ t. let f : eqb (x .errand) DUMMY ≡ true = eq-eqb (x .errand) DUMMY q in absurd (true≢false (rw f at t))))
         by-aim (forExtra q k) = upon G _ _ (eq-eqb (x .errand) EXTRA q)
-            (onward F.d6 D6 refl (sym (hand ∙ no-hand x (λ r. omega arith))) (sym (dum ∙ no-sought x (λ r. omega arith))) k (sym (eq-eqb (x .errand) EXTRA q)) refl refl)
+            (onward F.d6 D6 refl (sym (hand ∙ no-hand x (λ r. omega arith))) (sym (dummy-hand ∙ no-sought x (λ r. omega arith))) k (sym (eq-eqb (x .errand) EXTRA q)) refl refl)
 
     -- the search comes to cur, after prev
-    arrives : (cur ≢ 0 → Prot N w c′ m′ cur) → (cur ≡ 0 → wantBy x ≡ regular (x .key) → Absent z (x .key)) → Good z tk (comes x prev cur e)
+    arrives : (cur ≢ 0 → Safe N w c′ m′ cur) → (cur ≡ 0 → wantBy x ≡ regular (x .key) → Absent z (x .key)) → Good z tk (comes x prev cur e)
     unfolding comes
     arrives safe absent = by-eq (Good z tk) cur 0
         (λ q. not-found (record { safe = λ ne. absurd (ne q); high = λ ne. absurd (ne q) }) (absent q))
-        (λ ne. onward F.f2 F2 refl (sym hand) (sym dum) (b, safe ne) refl refl refl)
+        (λ ne. onward F.f2 F2 refl (sym hand) (sym dummy-hand) (b, safe ne) refl refl refl)
 
   -- back to the start
   again : Searches h w c m (Ps w) x → Good z tk (Going (to F1 x) Nothing)
@@ -181,9 +181,9 @@ module _ {h : Header} {ws : List Worker} {Ps Qs : Pasts} {w : ℕ} {c m : List �
       place = refl;
       sane = l .sane;
       key-same = sym hand;
-      dum-same = sym dum;
+      dummy-same = sym dummy-hand;
       key-has = l .key-has;
-      dum-has = l .dum-has;
+      dummy-has = l .dummy-has;
       at = b;
     };
     change = unmoved;
@@ -196,7 +196,7 @@ module _ {h : Header} {ws : List Worker} {Ps Qs : Pasts} {w : ℕ} {c m : List �
   unfolding f1
   f1-good b =
       let s = b .1 in
-      let some : x .start ≢ 0 = prot-some D N c m g₀ w (x .start) (inl (s .on)) in
+      let some : x .start ≢ 0 = safe-some D N c m g₀ w (x .start) (inl (s .on)) in
       let fits : x .start ≤ N = g₀ .fits (x .start) (s .on) in
       past (Good z tk) _ _ (sound-link h x (x .start) (link m (x .start)) 0 some (g₀ .links (x .start) fits))
       (arrives Nothing c m still (x .start) (after m (x .start)) fits (next-fits D N c m g₀ (x .start) fits)
@@ -207,8 +207,8 @@ module _ {h : Header} {ws : List Worker} {Ps Qs : Pasts} {w : ℕ} {c m : List �
   pub f2-good : F.At h w c m (Ps w) F.f2 x → Good z tk (f2 (seen h x (link m (x .cur)) 0))
   unfolding f2
   f2-good b =
-      let some : x .cur ≢ 0 = prot-some D N c m g₀ w (x .cur) (b .1) in
-      let fits : x .cur ≤ N = prot-fits D N c m g₀ w (x .cur) (b .1) in
+      let some : x .cur ≢ 0 = safe-some D N c m g₀ w (x .cur) (b .1) in
+      let fits : x .cur ≤ N = safe-fits D N c m g₀ w (x .cur) (b .1) in
       past (Good z tk) _ _ (sound-link h x (x .cur) (link m (x .cur)) 0 some (g₀ .links (x .cur) fits)) (record {
         chain = c;
         next = record {
@@ -219,9 +219,9 @@ module _ {h : Header} {ws : List Worker} {Ps Qs : Pasts} {w : ℕ} {c m : List �
           place = refl;
           sane = (l .sane .0, l .sane .1, l .sane .2, l .sane .3, l .sane .4, l .sane .5, l .sane .6, l .sane .7, l .sane .8, next-fits D N c m g₀ (x .cur) fits, l .sane .10, l .sane .11);
           key-same = sym hand;
-          dum-same = sym dum;
+          dummy-same = sym dummy-hand;
           key-has = l .key-has;
-          dum-has = l .dum-has;
+          dummy-has = l .dummy-has;
           at = (
             b .0,
             b .1,
@@ -253,7 +253,7 @@ module _ {h : Header} {ws : List Worker} {Ps Qs : Pasts} {w : ℕ} {c m : List �
     np = rw e (omega arith)
 
     some : x .cur ≢ 0
-    some = prot-some D N c m g₀ w (x .cur) (b .1)
+    some = safe-some D N c m g₀ w (x .cur) (b .1)
 
     cur-on : In (x .cur) c
     cur-on = rw np at (succ-in m (x .prev) 0 1 prev-on (g₀ .walk) (rw np some))
@@ -287,14 +287,14 @@ module _ {h : Header} {ws : List Worker} {Ps Qs : Pasts} {w : ℕ} {c m : List �
             (told No q (λ u. let f : _≡_ {A = ℕ} 0 1 = cc in absurd (omega arith)) (λ u. k) (omega arith))))
             (λ nk. by-eq G (x .kind) FIND
             (λ k. over z tk Yes c m (core z) unmoved (told Yes q (λ u. k) (λ u. let f : _≡_ {A = ℕ} 0 1 = cc in absurd (omega arith)) (omega arith)))
-            (λ nf. looks z tk p₀ l (dum ∙ no-sought x (λ r. omega arith)) F.d4a (to D4A x) refl (l .sane) (sym (hand ∙ no-hand x nk)) refl refl refl
+            (λ nf. looks z tk p₀ l (dummy-hand ∙ no-sought x (λ r. omega arith)) F.d4a (to D4A x) refl (l .sane) (sym (hand ∙ no-hand x nk)) refl refl refl
             (omega (arith, l .sane .0, l .sane .1), q, low, b .0 .1 .safe, b .1, has ∙ want-key (x .errand) (x .making) (x .key) (λ r. omega arith)) (sym (ne-eqb (x .errand) EXTRA (λ r. omega arith)))
             ))))
           where
             low : Start D c m (x .start) (regular (x .key))
             low = rw (want-key (x .errand) (x .making) (x .key) (λ r. omega arith)) at (b .0 .0 .1)
         by-aim (forExtra q k) = upon G _ _ (eq-eqb (x .errand) EXTRA q)
-            (looks z tk p₀ l (dum ∙ no-sought x (λ r. omega arith)) F.d6 (to D6 x) refl (l .sane) (sym (hand ∙ no-hand x (λ r. omega arith))) refl refl refl k (sym (eq-eqb (x .errand) EXTRA q)))
+            (looks z tk p₀ l (dummy-hand ∙ no-sought x (λ r. omega arith)) F.d6 (to D6 x) refl (l .sane) (sym (hand ∙ no-hand x (λ r. omega arith))) refl refl refl k (sym (eq-eqb (x .errand) EXTRA q)))
         by-aim (forDummy q hs way dn) = past G _ _ (ne-eqb (x .errand) EXTRA (λ r. omega arith)) (past G _ _ (ne-eqb (x .errand) KEY (λ r. omega arith))
             (past G _ _ (ne-eqb (x .dummy) 0 dn) (record {
               chain = c;
@@ -306,9 +306,9 @@ module _ {h : Header} {ws : List Worker} {Ps Qs : Pasts} {w : ℕ} {c m : List �
                 place = refl;
                 sane = (l .sane .0, l .sane .1, l .sane .2, l .sane .3, l .sane .4, l .sane .5, l .sane .6, l .sane .7, l .sane .8, l .sane .9, l .sane .10, l .sane .8);
                 key-same = sym hand;
-                dum-same = refl;
+                dummy-same = refl;
                 key-has = λ y. key-of-standing m (x .dummy) 0 (heldKey x) ∙ l .key-has y;
-                dum-has = λ y. absurd (y refl);
+                dummy-has = λ y. absurd (y refl);
                 at = (hs, way, root);
               };
               change = λ j. rw d-is at (free-same (core z) (heldDummy x) 0 D held (omega arith) j);
@@ -318,10 +318,10 @@ module _ {h : Header} {ws : List Worker} {Ps Qs : Pasts} {w : ℕ} {c m : List �
             })))
           where
             d-is : heldDummy x ≡ x .dummy
-            d-is = dum ∙ some-sought x q
+            d-is = dummy-hand ∙ some-sought x q
 
             held : Held 0 D c m (heldDummy x)
-            held = core z .dum-held (λ y. dn (sym d-is ∙ y))
+            held = core z .dummy-held (λ y. dn (sym d-is ∙ y))
 
             split : key m (x .cur) ≡ dummy (x .making)
             split = has ∙ want-dummy (x .errand) (x .making) (x .key) q
@@ -336,7 +336,7 @@ module _ {h : Header} {ws : List Worker} {Ps Qs : Pasts} {w : ℕ} {c m : List �
     is-judged : Good z tk (judged (seen h x (link m (x .prev)) (key m (x .cur))))
     unfolding judged
     is-judged = by-bool (Good z tk) (x .marked)
-        (λ t. onward Nothing c m still (x .prev) (x .cur) (l .sane .7) (l .sane .8) passes F.f4 F4 refl (sym hand) (sym dum) (passes, b .1, b .2 .dead t) refl refl refl)
+        (λ t. onward Nothing c m still (x .prev) (x .cur) (l .sane .7) (l .sane .8) passes F.f4 F4 refl (sym hand) (sym dummy-hand) (passes, b .1, b .2 .dead t) refl refl refl)
         (λ t. past (Good z tk) _ _ (ne-eqb (x .cur) 0 some) (rw (want-is x)
         (by-lt (Good z tk) (key m (x .cur)) (wantBy x)
         (λ lt. arrives Nothing c m still (x .cur) (x .next) (l .sane .8) (l .sane .9) (b .0 .0, record { safe = b .1; low = lt }) (b .2 .live t)
@@ -351,8 +351,8 @@ module _ {h : Header} {ws : List Worker} {Ps Qs : Pasts} {w : ℕ} {c m : List �
   pub f3-good : F.At h w c m (Ps w) F.f3 x → Good z tk (f3 (seen h x (link m (x .prev)) (key m (x .cur))))
   unfolding f3
   f3-good b =
-      let some : x .prev ≢ 0 = prot-some D N c m g₀ w (x .prev) (b .0 .1 .safe) in
-      let fits : x .prev ≤ N = prot-fits D N c m g₀ w (x .prev) (b .0 .1 .safe) in
+      let some : x .prev ≢ 0 = safe-some D N c m g₀ w (x .prev) (b .0 .1 .safe) in
+      let fits : x .prev ≤ N = safe-fits D N c m g₀ w (x .prev) (b .0 .1 .safe) in
       past (Good z tk) _ _ (sound-link h x (x .prev) (link m (x .prev)) (key m (x .cur)) some (g₀ .links (x .prev) fits))
       (by-bool (Good z tk) (isTo (link m (x .prev)) (x .cur)) (λ t. is-judged b (isTo-true (link m (x .prev)) (x .cur) t)) (λ _. again (b .0 .0)))
 
@@ -360,22 +360,22 @@ module _ {h : Header} {ws : List Worker} {Ps Qs : Pasts} {w : ℕ} {c m : List �
   pub f4-good : F.At h w c m (Ps w) F.f4 x → Good z tk (f4 (seen h x (link m (x .prev)) 0))
   unfolding f4
   f4-good b =
-      let some : x .prev ≢ 0 = prot-some D N c m g₀ w (x .prev) (b .0 .1 .safe) in
-      let fits : x .prev ≤ N = prot-fits D N c m g₀ w (x .prev) (b .0 .1 .safe) in
+      let some : x .prev ≢ 0 = safe-some D N c m g₀ w (x .prev) (b .0 .1 .safe) in
+      let fits : x .prev ≤ N = safe-fits D N c m g₀ w (x .prev) (b .0 .1 .safe) in
       past (Good z tk) _ _ (sound-link h x (x .prev) (link m (x .prev)) 0 some (g₀ .links (x .prev) fits))
       (by-bool (Good z tk) (isTo (link m (x .prev)) (x .cur))
-      (λ t. past (Good z tk) _ _ (ne-eqb (x .cur) 0 (prot-some D N c m g₀ w (x .cur) (b .1))) (cuts (isTo-true (link m (x .prev)) (x .cur) t)))
+      (λ t. past (Good z tk) _ _ (ne-eqb (x .cur) 0 (safe-some D N c m g₀ w (x .cur) (b .1))) (cuts (isTo-true (link m (x .prev)) (x .cur) t)))
       (λ _. again (b .0 .0)))
     where
       cuts : link m (x .prev) ≡ x .cur * 2 → Good z tk (comes x (x .prev) (x .next) (Unlink (x .prev) (x .next) (x .cur) (h .busy)))
       cuts e = arrives (Unlink (x .prev) (x .next) (x .cur) (h .busy)) (cutAfter i) m′ o (x .prev) (x .next) (l .sane .7) (l .sane .9)
           ((b .0 .0 .0, st.start later (b .0 .0 .1)), st.prev later (b .0 .1))
-          (λ ne. inl (rw (on′ .1) at (succ-in m′ (x .prev) 0 1 (on′ .0) (core′ .glob .walk) (rw (on′ .1) ne))))
-          (λ q k. inl (λ r. gap D N (cutAfter i) m′ (core′ .glob) (x .prev) (x .key) (on′ .0) (rw k at (st.prev later (b .0 .1) .low)) (λ ne. absurd (ne (on′ .1 ∙ q)))
+          (λ ne. inl (rw (on′ .1) at (succ-in m′ (x .prev) 0 1 (on′ .0) (core′ .of-nodes .walk) (rw (on′ .1) ne))))
+          (λ q k. inl (λ r. gap D N (cutAfter i) m′ (core′ .of-nodes) (x .prev) (x .key) (on′ .0) (rw k at (st.prev later (b .0 .1) .low)) (λ ne. absurd (ne (on′ .1 ∙ q)))
           (o .unchanged (x .key) .still r)))
         where
           some : x .cur ≢ 0
-          some = prot-some D N c m g₀ w (x .cur) (b .1)
+          some = safe-some D N c m g₀ w (x .cur) (b .1)
 
           i : In (x .prev) c
           i = live-on D N c m g₀ w (x .prev) (b .0 .1 .safe) (rw e (omega arith))
@@ -396,7 +396,7 @@ module _ {h : Header} {ws : List Worker} {Ps Qs : Pasts} {w : ℕ} {c m : List �
           o = record {
             rest = core′;
             key-is = λ y. later .has D N (heldKey x) y (core z .key-held y) ∙ l .key-has y;
-            dum-is = λ y. later .has 0 D (heldDummy x) y (core z .dum-held y) ∙ l .dum-has y;
+            dummy-is = λ y. later .has 0 D (heldDummy x) y (core z .dummy-held y) ∙ l .dummy-has y;
             unchanged = unlink-same (core z) (x .prev) (x .cur) (x .next) i e some (b .2);
             went = λ y q. q;
             finished = λ a q. q;

@@ -13,7 +13,7 @@ use borrow.Author.Tests.{ne-eqb, le-ltb, lt-leb}
 use Rattle.choice.proofs.Exactly.{Tells}
 use Rattle.sets.specs.Sets.{bit, isIn}
 use Rattle.sets.proofs.Laws.{bit-far}
-use Rattle.names.specs.Names.{IDLE, KEY-LIMIT, INSERT, DELETE, EXTRA, KEY, DUMMY, D6}
+use Rattle.names.specs.Names.{IDLE, F1, F2, F3, F4, L2, D6, KEY-LIMIT, INSERT, DELETE, EXTRA, KEY, DUMMY}
 use Rattle.header.specs.declared.Header.{Header}
 use Rattle.header.specs.Header.{nodesOf, headerDamaged}
 use Rattle.header.specs.Rows.{BusyBeyond}
@@ -43,7 +43,7 @@ module _ {h : Header} {ws : List Worker} {Ps : Pasts} {w k d : ℕ} {c m : List 
   -- nor 11, where the buckets are all there
   pub long-enough : isShort h (length m) (h .m) ≡ false
   unfolding isShort
-  long-enough = none-of (ltb (length m) (nodesOf h * 3)) (ltb (h .m) (h .m)) (le-ltb (length m) (nodesOf h * 3) (core .glob .size)) (le-ltb (h .m) (h .m) (omega arith))
+  long-enough = none-of (ltb (length m) (nodesOf h * 3)) (ltb (h .m) (h .m)) (le-ltb (length m) (nodesOf h * 3) (core .of-nodes .size)) (le-ltb (h .m) (h .m) (omega arith))
 
 place-le : (p : Spot) → number p ≤ D6
 place-le i1 = omega arith
@@ -68,7 +68,7 @@ place-le d6 = omega arith
 abbrev rows : Header → Worker → Bool
 rows h x = kindMisfit x || errandMisfit x || makingAstray x || sizeMisfit h x
 
-searching : (h : Header) (x : Worker) → (x .place ≡ 6) ⊎ (x .place ≡ 7) ⊎ (x .place ≡ 8) ⊎ (x .place ≡ 9) → AimOf x → rows h x ≡ false
+searching : (h : Header) (x : Worker) → (x .place ≡ F1) ⊎ (x .place ≡ F2) ⊎ (x .place ≡ F3) ⊎ (x .place ≡ F4) → AimOf x → rows h x ≡ false
 unfolding kindMisfit errandMisfit makingAstray sizeMisfit
 searching h x (inl e) (forKey q _) = rw (e, q)
 searching h x (inl e) (forDummy q _ _ _) = rw (e, q)
@@ -83,7 +83,7 @@ searching h x (inr (inr (inr e))) (forKey q _) = rw (e, q)
 searching h x (inr (inr (inr e))) (forDummy q _ _ _) = rw (e, q)
 searching h x (inr (inr (inr e))) (forExtra q k) = rw (e, q, k)
 
-placing : (h : Header) (x : Worker) → x .place ≡ 10 → AimOf x → (x .errand ≡ DUMMY) ⊎ ((x .errand ≡ KEY) × (x .kind ≡ INSERT)) → rows h x ≡ false
+placing : (h : Header) (x : Worker) → x .place ≡ L2 → AimOf x → (x .errand ≡ DUMMY) ⊎ ((x .errand ≡ KEY) × (x .kind ≡ INSERT)) → rows h x ≡ false
 unfolding kindMisfit errandMisfit makingAstray sizeMisfit
 placing h x e a (inl q) = rw (e, q)
 placing h x e a (inr q) = rw (e, q .0, q .1)

@@ -33,7 +33,7 @@ use Rattle.register.specs.Chain.{key, link, after, Registered}
 use Rattle.register.specs.Events.{Event, nothing, added, removed, written}
 use Rattle.story.specs.Trace.{ticked}
 use Rattle.story.proofs.Registers.{Same, Change, unmoved}
-use Rattle.story.proofs.Facts.{Glob, Spot, i1, sz, tb, b2, b4, f1, f2, f3, f4, l2, b8, i8, i9, i10, d4a, d4b, d6, number, At, Sane, wantBy, keyOf, dumOf, Busy}
+use Rattle.story.proofs.Facts.{Nodes, Spot, i1, sz, tb, b2, b4, f1, f2, f3, f4, l2, b8, i8, i9, i10, d4a, d4b, d6, number, At, Sane, wantBy, keyOf, dummyOf, Busy}
 use Rattle.story.proofs.Stable.{Grows}
 use Rattle.story.proofs.Hands.{key-is, dummy-is}
 use Rattle.story.proofs.Core.{Pasts, recordOf, not-idle, Core, Inv, aside, back}
@@ -133,9 +133,9 @@ module _ {h : Header} {ws : List Worker} {Ps Qs : Pasts} {w : ℕ} {c m : List �
     pub place : y .place ≡ number spot
     pub sane : Sane h′ y
     pub key-same : keyOf spot y ≡ k
-    pub dum-same : dumOf spot y ≡ d
+    pub dummy-same : dummyOf spot y ≡ d
     pub key-has : k ≢ 0 → key m′ k ≡ regular (y .key)
-    pub dum-has : d ≢ 0 → key m′ d ≡ dummy (y .making)
+    pub dummy-has : d ≢ 0 → key m′ d ≡ dummy (y .making)
     pub at : At h′ w c′ m′ (Qs w) spot y
 
   pub record Went (tk : Bool) (y : Worker) (h′ : Header) (m′ : List ℕ) (β′ : ℕ → ℕ) (ev : Event) : Type 0 where
@@ -172,12 +172,12 @@ module _ {h : Header} {ws : List Worker} {Ps Qs : Pasts} {w : ℕ} {c m : List �
     pub place : me .place ≡ number p
     pub sane : Sane h me
     pub hand : heldKey me ≡ keyOf p me
-    pub dum : heldDummy me ≡ dumOf p me
+    pub dummy-hand : heldDummy me ≡ dummyOf p me
     pub key-has : heldKey me ≢ 0 → key m (heldKey me) ≡ regular (me .key)
-    pub dum-has : heldDummy me ≢ 0 → key m (heldDummy me) ≡ dummy (me .making)
+    pub dummy-has : heldDummy me ≢ 0 → key m (heldDummy me) ≡ dummy (me .making)
 
   -- the worker goes on and nothing is written, with no dummy in hand
-  pub looks : (tk : Bool) (p : Spot) → Stands p → heldDummy me ≡ 0 → (q : Spot) (y : Worker) → y .place ≡ number q → Sane h (ticked y) → keyOf q (ticked y) ≡ heldKey me → dumOf q (ticked y) ≡ 0
+  pub looks : (tk : Bool) (p : Spot) → Stands p → heldDummy me ≡ 0 → (q : Spot) (y : Worker) → y .place ≡ number q → Sane h (ticked y) → keyOf q (ticked y) ≡ heldKey me → dummyOf q (ticked y) ≡ 0
       → y .kind ≡ me .kind → y .key ≡ me .key → At h w c m (Qs w) q (ticked y) → took q (y .errand) ≡ tk → Good tk (Going y Nothing)
   looks tk p s d0 q y pl sn ek ed kd ky a t = record {
     chain = c;
@@ -189,9 +189,9 @@ module _ {h : Header} {ws : List Worker} {Ps Qs : Pasts} {w : ℕ} {c m : List �
       place = pl;
       sane = sn;
       key-same = ek;
-      dum-same = ed ∙ sym d0;
+      dummy-same = ed ∙ sym d0;
       key-has = λ n. rw ky (s .key-has n);
-      dum-has = λ n. absurd (n d0);
+      dummy-has = λ n. absurd (n d0);
       at = a;
     };
     change = unmoved;
@@ -203,7 +203,7 @@ module _ {h : Header} {ws : List Worker} {Ps Qs : Pasts} {w : ℕ} {c m : List �
   -- the invariant after a step that goes on
   pub gone : (y : Worker) (h′ : Header) (c′ m′ : List ℕ) (β′ : ℕ → ℕ) → (w < h′ .w) → bit w (h′ .busy) ≡ 1 → Next h′ c′ m′ β′ y → Inv h′ (set ws w y) Qs c′ m′ β′
   gone y h′ c′ m′ β′ lt on n = back (n .rest) lt y Qs (z .others) (inr b) (inr (λ e. not-idle (n .spot) (sym (n .place) ∙ e), on))
-      (key-is h′ w c′ m′ (Qs w) y b ∙ n .key-same) (dummy-is h′ w c′ m′ (Qs w) y b ∙ n .dum-same)
+      (key-is h′ w c′ m′ (Qs w) y b ∙ n .key-same) (dummy-is h′ w c′ m′ (Qs w) y b ∙ n .dummy-same)
     where
       b : Busy h′ w c′ m′ (Qs w) y
       b = record {
@@ -211,7 +211,7 @@ module _ {h : Header} {ws : List Worker} {Ps Qs : Pasts} {w : ℕ} {c m : List �
         place = n .place;
         sane = n .sane;
         held = λ q. rw (n .key-same) (record { held = n .rest .key-held (λ e. q (n .key-same ∙ e)); has = n .key-has (λ e. q (n .key-same ∙ e)) });
-        dum = λ q. rw (n .dum-same) (record { held = n .rest .dum-held (λ e. q (n .dum-same ∙ e)); has = n .dum-has (λ e. q (n .dum-same ∙ e)) });
+        dummy-held = λ q. rw (n .dummy-same) (record { held = n .rest .dummy-held (λ e. q (n .dummy-same ∙ e)); has = n .dummy-has (λ e. q (n .dummy-same ∙ e)) });
         at = n .at;
       }
 
@@ -250,7 +250,7 @@ unfolding wantOf
 want-is x = refl
 
 -- a node of the chain is of the sort of its split key
-module _ (D N : ℕ) (c m : List ℕ) (g : Glob D N c m) (n : ℕ) (i : In n c) where
+module _ (D N : ℕ) (c m : List ℕ) (g : Nodes D N c m) (n : ℕ) (i : In n c) where
   pub even-sort : key m n % 2 ≡ 0 → n ≤ D
   even-sort e = go (leb n D) refl
     where

@@ -114,7 +114,7 @@ module _ (r : Trace) (i : ℕ) (g : Good r i) where
         from = rw (began-step r i w w e) (alive r i g w lt ne);
         upto = omega arith;
         own = e;
-        on = in-on (state r i .nodes) (g .chain) (g .inv .glob .walk) o;
+        on = in-on (state r i .nodes) (g .chain) (g .inv .of-nodes .walk) o;
         link-is = l;
         key-is = refl;
       }) (answerAt r i) (eventAt r i) (state r (suc i)) n
@@ -199,7 +199,7 @@ balance a b (removed j) k ins del l c p = by (ℕ-discrete k j) p
 pub none-yet : (r : Trace) (k : ℕ) → Registered (state r 0 .nodes) k → ⊥
 none-yet r k g =
     let i = fresh-inv (r .limits) (state r 0) (r .first) (Past r 0) in
-    let e : key (state r 0 .nodes) (g .node) ≡ 0 = rw (is-one (on-in (state r 0 .nodes) (1 ∷ []) (i .glob .walk) (g .on))) (i .glob .zero) in
+    let e : key (state r 0 .nodes) (g .node) ≡ 0 = rw (is-one (on-in (state r 0 .nodes) (1 ∷ []) (i .of-nodes .walk) (g .on))) (i .of-nodes .zero) in
     omega (arith, regular-odd-all k, g .has)
   where
     is-one : {n : ℕ} → In n (1 ∷ []) → n ≡ 1
