@@ -35,13 +35,13 @@ use Rattle.moves.specs.Moves.{decided}
 use Rattle.writes.specs.Writes.{headerAfter}
 use Rattle.writes.specs.Carry.{After, after}
 use Rattle.register.specs.Step.{refusedWith, seenBy, carried}
-use Rattle.prepare.specs.Prepare.{Kept, freshHeader, prepared}
+use Rattle.prepare.specs.Prepare.{Kept, freshHeader, tooFewFor, prepared}
 use Rattle.header.specs.Header.{isShort}
 use Rattle.register.specs.Calls.{steppedBy, stepVerdict, stepOf, askedOf}
 use Rattle.crew.specs.declared.Call.{Call}
 use Rattle.crew.specs.declared.Call.the-variants.{Start as Starts, Steps}
 use Rattle.crew.specs.declared.Ready.{Ready}
-use Rattle.crew.specs.Crew.{Left, left, refused, called, turnAt, stored, tooFew, stepAt, startAt, filled, ready, tooFewFor, prepareAt, turn, going, moreAt, stepsAt, serveAt}
+use Rattle.crew.specs.Crew.{Left, left, refused, called, turnAt, stored, tooFew, stepAt, startAt, filled, ready, prepareAt, turn, going, moreAt, stepsAt, serveAt}
 use Rattle.crew.specs.One.{noneOf, pastOf, mostOf, callOf, serveOne, wants, Wanted, wanted, prepareOne}
 
 -- the answer to a worker that there is not, where there are fewer records than W and where there are not

@@ -7,9 +7,9 @@ use lib.ListN.{length, getD, set}
 use Rattle.choice.specs.Choice.{pick}
 use Rattle.names.specs.Names.{numberOf}
 use Rattle.names.specs.declared.Answer.{Answer}
-use Rattle.names.specs.declared.Answer.the-variants.{Limit, Short, Damaged}
+use Rattle.names.specs.declared.Answer.the-variants.{Short, Damaged}
 use Rattle.header.specs.declared.Header.{Header}
-use Rattle.header.specs.Header.{limitBroken, headerDamaged}
+use Rattle.header.specs.Header.{headerDamaged}
 use Rattle.record.specs.declared.Worker.{Worker}
 use Rattle.record.specs.Worker.{idle}
 use Rattle.prepare.specs.declared.Limits.{Limits}
@@ -17,7 +17,7 @@ use Rattle.register.specs.declared.Turn.{Turn}
 use Rattle.writes.specs.declared.Outcome.{Outcome}
 use Rattle.prepare.specs.declared.Prepared.{Prepared}
 use Rattle.writes.specs.Carry.{After, after}
-use Rattle.prepare.specs.Prepare.{freshHeader, prepared}
+use Rattle.prepare.specs.Prepare.{tooFewFor, prepared}
 use Rattle.register.specs.Calls.{startOf, stepOf}
 use Rattle.crew.specs.declared.Call.{Call}
 use Rattle.crew.specs.declared.Call.the-variants.{Start, Steps}
@@ -97,10 +97,6 @@ idled n ws = filled n idle ws
 -- what preparing hands back; no step is counted
 abbrev pub ready : Prepared → Called
 ready o = record { answer = o .answer; steps = 0; header = o .header }
-
--- fewer records than W: 10, then 11
-unfoldable pub tooFewFor : Limits → Answer
-tooFewFor l = pick (limitBroken (freshHeader l)) Limit Short
 
 -- a register is prepared: its W records are idle, and those past W stay
 unfoldable pub prepareAt : Limits → Header → List Worker → List ℕ → List ℕ → Left

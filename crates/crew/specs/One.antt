@@ -17,13 +17,13 @@ use Rattle.prepare.specs.declared.Prepared.{Prepared}
 use Rattle.register.specs.declared.Turn.{Turn}
 use Rattle.writes.specs.Carry.{After, after, handedBack}
 use Rattle.register.specs.Step.{refusedWith}
-use Rattle.prepare.specs.Prepare.{prepared}
+use Rattle.prepare.specs.Prepare.{tooFewFor, prepared}
 use Rattle.register.specs.Calls.{startOf, stepOf}
 use Rattle.crew.specs.declared.Call.{Call}
 use Rattle.crew.specs.declared.Call.the-variants.{Start, Steps}
 use Rattle.crew.specs.declared.Served.{Served}
 use Rattle.crew.specs.declared.Ready.{Ready}
-use Rattle.crew.specs.Crew.{called, turn, going, tooFew, tooFewFor, ready}
+use Rattle.crew.specs.Crew.{called, turn, going, tooFew, ready}
 
 -- a worker that there is not: 12, then 11 where there are too few records or words, then 13
 unfoldable pub noneOf : Header → Bool → ℕ → ℕ → Answer

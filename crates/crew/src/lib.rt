@@ -4,11 +4,10 @@ ghost use Prim.Native.Nat.{_≤_};
 ghost use lib.ListN.{length};
 ghost use Rattle.names.specs.declared.Answer.the-variants.{Going};
 ghost use Rattle.writes.specs.Carry.{after, handedBack};
-ghost use Rattle.crew.specs.Crew.{left, turn, refused, going, tooFew, filled, tooFewFor, serveAt, prepareAt};
+ghost use Rattle.crew.specs.Crew.{left, turn, refused, going, tooFew, filled, serveAt, prepareAt};
 ghost use Rattle.crew.specs.One.{pastOf, apart, outcome, mostOf, serveOne, wants, wanted, prepareOne};
 use header::Header;
 use names::Answer;
-use names::place;
 use prepare::Limits;
 use prepare::Prepared;
 use record::Worker;
@@ -186,25 +185,6 @@ pub fn serve(
     out.called
 }
 
-// 10, then 11: there are fewer records than the W that is asked for.
-fn too_few_for(limits: Limits) -> Answer
-    ensures { λ r. ⌜ r ≡ tooFewFor limits ⌝ }
-{
-    let fresh = Header {
-        m: limits.m,
-        k: limits.k,
-        w: limits.w,
-        l: limits.l,
-        size: 2,
-        count: 0,
-        busy: 0,
-    };
-    if fresh.limit_broken() {
-        return Answer::Limit;
-    }
-    Answer::Short
-}
-
 // A prepared register wants W idle records, a refused one none.
 fn wants(w: u32, out: Prepared) -> Ready
     ensures { λ r. ⌜ r ≡ wants w out ⌝ }
@@ -216,7 +196,7 @@ fn wants(w: u32, out: Prepared) -> Ready
         steps: 0,
         header,
     };
-    let worker = Worker::fresh(place::IDLE, 0, 0);
+    let worker = Worker::idle();
     if answer.number() == 0 {
         return Ready {
             called,
@@ -242,7 +222,7 @@ fn prepare_one(
     ensures { λ r. ⌜ wanted r (now (nodes .exit)) (now (buckets .exit)) ≡ prepareOne limits len header (now (nodes .entry)) (now (buckets .entry)) ⌝ }
 {
     if (len as u64) < (limits.w as u64) {
-        let answer = too_few_for(limits);
+        let answer = limits.too_few();
         return wants(limits.w, Prepared { answer, header });
     }
     let out = limits.prepare(header, nodes, buckets);

@@ -2,21 +2,23 @@
 use Prim.Native.Nat.{ℕ, _*_}
 use mathlib.Core.List.{List, [], _∷_}
 use lib.ListN.{length}
+use Rattle.choice.specs.Choice.{pick}
 use Rattle.choice.specs.Table.{firstOf}
 use Rattle.words.specs.Words.{STANDING, TAKEN, put, store}
 use Rattle.scans.specs.Scans.{cleared}
+use Rattle.names.specs.declared.Answer.{Answer}
 use Rattle.names.specs.declared.Answer.the-variants.{Going, Limit, Short}
 use Rattle.names.specs.declared.Verdict.{Verdict}
 use Rattle.names.specs.declared.Verdict.the-variants.{Pass, Refused}
 use Rattle.names.specs.Verdicts.{refuses}
 use Rattle.header.specs.declared.Header.{Header}
-use Rattle.header.specs.Header.{nodesOf, limitBroken, isShort}
+use Rattle.header.specs.Header.{fresh, nodesOf, limitBroken, isShort}
 use Rattle.prepare.specs.declared.Limits.{Limits}
 use Rattle.prepare.specs.declared.Prepared.{Prepared}
 
 -- size 2, count 0, nobody busy
 abbrev pub freshHeader : Limits → Header
-freshHeader l = record { m = l .m; k = l .k; w = l .w; l = l .l; size = 2; count = 0; busy = 0 }
+freshHeader l = fresh (l .m) (l .k) (l .w) (l .l)
 
 -- 10, then 11
 unfoldable pub prepareVerdict : Limits → ℕ → ℕ → Verdict
@@ -26,6 +28,10 @@ prepareVerdict l nodes buckets =
     ∷ refuses Short (isShort (freshHeader l) nodes buckets)
     ∷ [])
     Pass
+
+-- fewer records than W: 10, then 11
+unfoldable pub tooFewFor : Limits → Answer
+tooFewFor l = pick (limitBroken (freshHeader l)) Limit Short
 
 -- what preparing leaves: what it hands back, and the two lent tables
 pub record Kept : Type 0 where

@@ -22,9 +22,9 @@ use Rattle.header.specs.declared.Header.{Header}
 use Rattle.header.proofs.Rows.{limit-broken, header-damaged}
 use Rattle.record.specs.declared.Worker.{Worker}
 use Rattle.record.specs.Worker.{idle}
-use Rattle.prepare.specs.Prepare.{freshHeader, prepared}
+use Rattle.prepare.specs.Prepare.{freshHeader, tooFewFor, prepared}
 use Rattle.writes.specs.Carry.{After}
-use Rattle.crew.specs.Crew.{Left, left, refused, turnAt, stored, tooFew, stepAt, startAt, tooFewFor, prepareAt}
+use Rattle.crew.specs.Crew.{Left, left, refused, turnAt, stored, tooFew, stepAt, startAt, prepareAt}
 use Rattle.promises.specs.Unchanged.{Untouched}
 use Rattle.promises.specs.Tables.{AllAsBefore, UnchangedIn, PrepareAtExactly, StartAtExactly, StepAtExactly, PrepareAtUnchanged, StartAtUnchanged, StepAtUnchanged}
 use Rattle.promises.proofs.Refusals.{Allowed, prepare-gives, start-gives, step-gives}

@@ -3,7 +3,8 @@
 ghost use mathlib.Core.Path.{_≡_};
 ghost use Rattle.words.specs.Words.{LINK, put, linkWord, linkTo};
 ghost use Rattle.writes.specs.Writes.{isNothing, nodesAfter, headerAfter, storedBy};
-ghost use Rattle.writes.specs.Carry.{carriedOut, handedBack, tick, going, closedBy, ending, carriedBy, storeOf};
+ghost use Rattle.record.specs.Worker.{tick};
+ghost use Rattle.writes.specs.Carry.{carriedOut, handedBack, going, closedBy, ending, carriedBy, storeOf};
 use acts::Effect;
 use acts::Move;
 use header::Header;
