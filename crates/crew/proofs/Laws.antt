@@ -32,7 +32,7 @@ use Rattle.acts.specs.Acts.{answered, handedBack}
 use Rattle.moves.specs.Moves.{decided}
 use Rattle.writes.specs.Writes.{headerAfter}
 use Rattle.prepare.specs.declared.Limits.{Limits}
-use Rattle.prepare.specs.Prepare.{freshHeader, prepared}
+use Rattle.prepare.specs.Prepare.{freshHeader, tooFewFor, prepared}
 use Rattle.register.specs.declared.Call.{Call}
 use Rattle.register.specs.declared.Call.the-variants.{Start, Step}
 use Rattle.register.specs.declared.Turn.{Turn}
@@ -40,7 +40,7 @@ use Rattle.register.specs.Step.{refusedWith, seenBy, carried}
 use Rattle.register.specs.Calls.{steppedBy, stepVerdict, stepOf, askedOf}
 use Rattle.register.proofs.Laws.{past-asked}
 use Rattle.crew.specs.declared.Ready.{Ready}
-use Rattle.crew.specs.Crew.{Crew, crew, turnAt, oneCall, stored, callAt, mostAt, serveAt, filled, tooFewFor, wants, prepareOne, prepareAt}
+use Rattle.crew.specs.Crew.{Crew, crew, turnAt, oneCall, stored, callAt, mostAt, serveAt, filled, wants, prepareOne, prepareAt}
 use Rattle.crew.specs.One.{turn, pastOf, mostOf, serveOne}
 
 -- a write leaves the limits and the busy set as they are

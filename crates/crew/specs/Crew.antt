@@ -7,17 +7,16 @@ use lib.ListN.{length, getD, set}
 use Rattle.choice.specs.Choice.{pick}
 use Rattle.words.specs.Words.{Tables, lengths, Left, left}
 use Rattle.names.specs.Names.{goesOn}
-use Rattle.names.specs.declared.Answer.{Answer}
-use Rattle.names.specs.declared.Answer.the-variants.{Going, Limit, Short}
+use Rattle.names.specs.declared.Answer.the-variants.{Going}
 use Rattle.header.specs.declared.Header.{Header}
-use Rattle.header.specs.Header.{limitBroken, missing}
+use Rattle.header.specs.Header.{missing}
 use Rattle.record.specs.declared.Worker.{Worker}
 use Rattle.record.specs.Worker.{idle}
 use Rattle.acts.specs.declared.Called.{Called}
 use Rattle.acts.specs.declared.Outcome.{Outcome}
 use Rattle.acts.specs.Acts.{answered}
 use Rattle.prepare.specs.declared.Limits.{Limits}
-use Rattle.prepare.specs.Prepare.{freshHeader, prepared}
+use Rattle.prepare.specs.Prepare.{tooFewFor, prepared}
 use Rattle.register.specs.declared.Call.{Call}
 use Rattle.register.specs.declared.Call.the-variants.{Start, Step}
 use Rattle.register.specs.declared.Turn.{Turn}
@@ -66,10 +65,6 @@ serveAt h ws w Step most ts = mostAt w most (left (crew (answered Going h) ws) t
 unfoldable pub filled : ℕ → Worker → List Worker → List Worker
 filled zero x ws = ws
 filled (suc n) x ws = set (filled n x ws) n x
-
--- fewer records than W: 10, then 11
-unfoldable pub tooFewFor : Limits → Answer
-tooFewFor l = pick (limitBroken (freshHeader l)) Limit Short
 
 -- a prepared register wants W idle records, a refused one none
 abbrev pub wants : ℕ → Called → Ready

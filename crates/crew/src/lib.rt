@@ -6,13 +6,12 @@ ghost use Rattle.words.specs.Words.{tables, left};
 ghost use Rattle.acts.specs.Acts.{handedBack};
 ghost use Rattle.names.specs.Names.{goesOn};
 ghost use Rattle.names.specs.declared.Answer.the-variants.{Going};
-ghost use Rattle.crew.specs.Crew.{crew, filled, tooFewFor, oneCall, wants, prepareOne, serveAt, prepareAt};
+ghost use Rattle.crew.specs.Crew.{crew, filled, oneCall, wants, prepareOne, serveAt, prepareAt};
 ghost use Rattle.crew.specs.One.{turn, noCall, pastOf, mostOf, serveOne};
 use acts::Called;
 use acts::Outcome;
 use header::Header;
 use names::Answer;
-use names::place;
 use prepare::Limits;
 use record::Worker;
 use register::Call;
@@ -153,31 +152,12 @@ pub fn serve(
     out.called
 }
 
-// 10, then 11: there are fewer records than the W that is asked for.
-fn too_few_for(limits: Limits) -> Answer
-    ensures { λ r. ⌜ r ≡ tooFewFor limits ⌝ }
-{
-    let fresh = Header {
-        m: limits.m,
-        k: limits.k,
-        w: limits.w,
-        l: limits.l,
-        size: 2,
-        count: 0,
-        busy: 0,
-    };
-    if fresh.limit_broken() {
-        return Answer::Limit;
-    }
-    Answer::Short
-}
-
 // A prepared register wants W idle records, a refused one none.
 fn wants(w: u32, called: Called) -> Ready
     ensures { λ r. ⌜ r ≡ wants w called ⌝ }
 {
     let answer = called.answer;
-    let worker = Worker::fresh(place::IDLE, 0, 0);
+    let worker = Worker::idle();
     if answer.goes_on() {
         return Ready {
             called,
@@ -203,7 +183,7 @@ fn prepare_one(
     ensures { λ r. ⌜ left r (tables (now (nodes .exit)) (now (buckets .exit))) ≡ prepareOne limits len header (tables (now (nodes .entry)) (now (buckets .entry))) ⌝ }
 {
     if (len as u64) < (limits.w as u64) {
-        return wants(limits.w, Called::answered(too_few_for(limits), header));
+        return wants(limits.w, Called::answered(limits.too_few(), header));
     }
     let called = limits.prepare(header, nodes, buckets);
     wants(limits.w, called)

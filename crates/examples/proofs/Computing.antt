@@ -8,14 +8,14 @@ use Rattle.sets.specs.Sets.{bit, isIn, dropped, raised}
 use Rattle.scans.specs.Scans.{leave, sweep, freeFrom, freeNode, cleared}
 use Rattle.chain.specs.Chain.{isKey, keysFrom}
 use Rattle.header.specs.Header.{limitBroken, sizeBroken, busyBeyond, headerDamaged, isShort, doubles}
-use Rattle.record.specs.Worker.{begun, heldKey, heldDummy}
+use Rattle.record.specs.Worker.{begun, tick, heldKey, heldDummy}
 use Rattle.faults.specs.Faults.{unknownName, bucketBeyond, nodeBeyond, bitDisagrees, idleNotZero, kindMisfit, errandMisfit, makingAstray, sizeMisfit, workerDamaged}
 use Rattle.moves.specs.Moves.{badLink, wantOf, heldFor, notFound, foundKey, found, comes, f1, f2, judged, f3, f4, placed, l2, tb, b2, b4, b8, i1, sz, i8, i9, i10, d4a, d4b, d6, decidedAt, decided}
-use Rattle.writes.specs.Carry.{tick, closedBy}
+use Rattle.writes.specs.Carry.{closedBy}
 use Rattle.register.specs.Step.{wordGiven, bucketAt, wordAt, wordFor, splitFor}
-use Rattle.prepare.specs.Prepare.{prepareVerdict, prepared}
+use Rattle.prepare.specs.Prepare.{prepareVerdict, tooFewFor, prepared}
 use Rattle.register.specs.Calls.{startVerdict, startOf, stepVerdict, stepOf}
-use Rattle.crew.specs.Crew.{Left, tooFew, stepAt, startAt, filled, tooFewFor, prepareAt}
+use Rattle.crew.specs.Crew.{Left, tooFew, stepAt, startAt, filled, prepareAt}
 use Rattle.story.specs.Run.{State, Call, left}
 
 unfoldable pub computed : State → Call → Left

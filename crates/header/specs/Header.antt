@@ -1,13 +1,18 @@
--- The header: how many nodes there are, its faults row by row, and the load test.
-use Prim.Native.Nat.{ℕ, _+_, _*_, _/_, _^_}
+-- The header: a fresh one, one that is changed, how many nodes there are, its faults row by row, and the load test.
+use Prim.Native.Nat.{ℕ, _+_, _*_, _/_, _%_, _^_}
 use mathlib.Core.Bool.{Bool, not, _&&_, _||_}
 use lib.Dec.{leb, ltb}
 use Rattle.tree.specs.Tree.{powerUpTo}
 use Rattle.choice.specs.Choice.{pick}
+use Rattle.sets.specs.Sets.{raised, dropped}
 use Rattle.words.specs.declared.Lengths.{Lengths}
 use Rattle.names.specs.declared.Answer.{Answer}
 use Rattle.names.specs.declared.Answer.the-variants.{Short, Damaged, NoWorker}
 use Rattle.header.specs.declared.Header.{Header}
+
+-- size 2, count 0, nobody busy
+abbrev pub fresh : ℕ → ℕ → ℕ → ℕ → Header
+fresh m k w l = record { m = m; k = k; w = w; l = l; size = 2; count = 0; busy = 0 }
 
 -- the header with another size, count or set of busy workers; antt has no update of a record
 abbrev pub sized : ℕ → Header → Header
@@ -18,6 +23,27 @@ counted v h = record { m = h .m; k = h .k; w = h .w; l = h .l; size = h .size; c
 
 abbrev pub busied : ℕ → Header → Header
 busied v h = record { m = h .m; k = h .k; w = h .w; l = h .l; size = h .size; count = h .count; busy = v }
+
+-- the count is a 32-bit word that passes below zero on purpose
+abbrev pub countUp : ℕ → ℕ
+countUp count = (count + 1) % 4294967296
+
+abbrev pub countDown : ℕ → ℕ
+countDown count = (count + 4294967295) % 4294967296
+
+-- one key more is counted, one key less
+abbrev pub countedUp : Header → Header
+countedUp h = counted (countUp (h .count)) h
+
+abbrev pub countedDown : Header → Header
+countedDown h = counted (countDown (h .count)) h
+
+-- worker w is busy, and no more
+abbrev pub busyWith : ℕ → Header → Header
+busyWith w h = busied (raised w (h .busy)) h
+
+abbrev pub busyWithout : ℕ → Header → Header
+busyWithout w h = busied (dropped w (h .busy)) h
 
 -- N = M + W + K: dummies are nodes 1 to M + W, keys the next K
 abbrev pub dummiesOf : Header → ℕ

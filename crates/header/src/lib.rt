@@ -1,6 +1,6 @@
-// The register's header, by value: its faults, row by row of the scope paper, and the load test.
+// The register's header, by value: its faults, row by row of the scope paper, the load test, and the header changed, each change handing the changed header back.
 ghost use mathlib.Core.Path.{_≡_};
-ghost use Rattle.header.specs.Header.{nodesOf, limitBroken, sizeBroken, busyBeyond, headerDamaged, isShort, missing, doubles};
+ghost use Rattle.header.specs.Header.{fresh, sized, counted, countedUp, countedDown, busyWith, busyWithout, nodesOf, limitBroken, sizeBroken, busyBeyond, headerDamaged, isShort, missing, doubles};
 use names::Answer;
 use words::Lengths;
 
@@ -16,6 +16,69 @@ pub struct Header {
 }
 
 impl Header {
+    // A fresh register's: size 2, count 0, nobody busy.
+    pub fn fresh(m: u32, k: u32, w: u32, l: u32) -> Header
+        ensures { λ r. ⌜ r ≡ fresh m k w l ⌝ }
+    {
+        Header {
+            m,
+            k,
+            w,
+            l,
+            size: 2,
+            count: 0,
+            busy: 0,
+        }
+    }
+
+    // Another size.
+    pub fn resized(self, size: u32) -> Header
+        ensures { λ r. ⌜ r ≡ sized size self ⌝ }
+    {
+        Header { size, ..self }
+    }
+
+    // Another count.
+    pub fn counting(self, count: u32) -> Header
+        ensures { λ r. ⌜ r ≡ counted count self ⌝ }
+    {
+        Header { count, ..self }
+    }
+
+    // One key more is counted; the count wraps, since it may have passed below zero.
+    pub fn counted_up(self) -> Header
+        ensures { λ r. ⌜ r ≡ countedUp self ⌝ }
+    {
+        self.counting(std::num::wrapping_add_u32(self.count, 1))
+    }
+
+    // One key less is counted, which may be before its insert has counted it.
+    pub fn counted_down(self) -> Header
+        ensures { λ r. ⌜ r ≡ countedDown self ⌝ }
+    {
+        self.counting(std::num::wrapping_sub_u32(self.count, 1))
+    }
+
+    // The worker begins an operation.
+    pub fn busy_with(self, worker: u32) -> Header
+        ensures { λ r. ⌜ r ≡ busyWith worker self ⌝ }
+    {
+        Header {
+            busy: sets::with_bit(self.busy, worker),
+            ..self
+        }
+    }
+
+    // The worker's operation ends.
+    pub fn busy_without(self, worker: u32) -> Header
+        ensures { λ r. ⌜ r ≡ busyWithout worker self ⌝ }
+    {
+        Header {
+            busy: sets::without(self.busy, worker),
+            ..self
+        }
+    }
+
     // How many nodes there are, N.
     pub fn nodes(self) -> u64
         ensures { λ r. ⌜ r ≡ nodesOf self ⌝ }

@@ -9,8 +9,9 @@ use Rattle.tree.specs.Tree.{parentOf, nextDown}
 use Rattle.words.specs.Words.{isTo}
 use Rattle.names.specs.Names.{I1, SZ, TB, B2, B4, F1, F2, F3, F4, L2, B8, I8, I9, I10, D4A, D4B, D6, KEY, DUMMY, EXTRA, INSERT, FIND}
 use Rattle.names.specs.declared.Answer.the-variants.{Yes, No, NoKeyNode, NoDummy}
-use Rattle.header.specs.Header.{nodesOf, doubles}
-use Rattle.record.specs.Fields.{to, withErrand, withWanted, withMaking, withSize, withStart, withPrev, withCur, withNext, withMarked, withHeld, withDummy}
+use Rattle.header.specs.Header.{countUp, countDown, nodesOf, doubles}
+use Rattle.record.specs.Fields.{to, withErrand, withWanted, withMaking, withSize, withStart, withHeld, withDummy}
+use Rattle.record.specs.Worker.{comingTo, reading}
 use Rattle.record.specs.declared.Worker.{Worker}
 use Rattle.moves.specs.declared.Seen.{Seen}
 use Rattle.acts.specs.declared.Effect.{Effect}
@@ -64,7 +65,7 @@ found x =
 -- the search comes to cur, after prev: 0 is not found, else F2
 unfoldable pub comes : Worker → ℕ → ℕ → Effect → Move
 comes x prev cur e =
-    let y = withCur cur (withPrev prev x) in
+    let y = comingTo prev cur x in
     pick (eqb cur 0) (notFound y e) (Going (to F2 y) e)
 
 -- ---- the search, figure 14's list_find
@@ -78,7 +79,7 @@ unfoldable pub f2 : Seen → Move
 f2 s =
     let x = s .worker in
     pick (eqb (x .cur) 0 || badLink s) Damaged
-    (on (to F3 (withMarked (eqb (s .word % 2) 1) (withNext (s .word / 2) x))))
+    (on (to F3 (reading (s .word) x)))
 
 -- prev's link was unmarked with next cur
 unfoldable pub judged : Seen → Move
@@ -163,13 +164,6 @@ sz s = on (to TB (withWanted (s .worker .key % s .header .size) (s .worker)))
 
 unfoldable pub i8 : Seen → Move
 i8 s = on (to I9 (withSize (s .header .size) (s .worker)))
-
--- the count is a 32-bit word that passes below zero on purpose
-abbrev pub countUp : ℕ → ℕ
-countUp count = (count + 1) % 4294967296
-
-abbrev pub countDown : ℕ → ℕ
-countDown count = (count + 4294967295) % 4294967296
 
 unfoldable pub i9 : Seen → Move
 i9 s =

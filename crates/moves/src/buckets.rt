@@ -2,7 +2,7 @@
 ghost use mathlib.Core.Path.{_≡_};
 ghost use Rattle.moves.specs.Moves.{tb, b2, b4, b8};
 use crate::Seen;
-use crate::going;
+use crate::on;
 use acts::Effect;
 use acts::Move;
 use names::Answer;
@@ -14,41 +14,37 @@ impl Seen {
     pub(super) fn tb(self) -> Move
         ensures { λ r. ⌜ r ≡ tb self ⌝ }
     {
-        let mut x = self.worker;
+        let x = self.worker;
         if self.header.nodes() < self.word as u64 {
             return Move::Damaged;
         }
         if self.word == 0 {
-            x.making = x.wanted;
-            return going(x, place::B2);
+            return on(x.to_make(x.wanted).to(place::B2));
         }
-        x.errand = errand::KEY;
-        x.start = self.word;
-        going(x, place::F1)
+        on(
+            x.on_errand(errand::KEY)
+                .searching_from(self.word)
+                .to(place::F1),
+        )
     }
 
     pub(super) fn b2(self) -> Move
         ensures { λ r. ⌜ r ≡ b2 self ⌝ }
     {
-        let mut x = self.worker;
+        let x = self.worker;
         if self.header.nodes() < self.word as u64 {
             return Move::Damaged;
         }
         if self.word == 0 {
-            x.making = tree::parent(x.making);
-            return Move::Going {
-                worker: x,
-                effect: Effect::Nothing,
-            };
+            return on(x.to_make(tree::parent(x.making)));
         }
-        x.start = self.word;
-        going(x, place::B4)
+        on(x.searching_from(self.word).to(place::B4))
     }
 
     pub(super) fn b4(self) -> Move
         ensures { λ r. ⌜ r ≡ b4 self ⌝ }
     {
-        let mut x = self.worker;
+        let x = self.worker;
         let free = self.word;
         if free == 0 {
             if (x.kind == kind::INSERT) & (x.held == 0) {
@@ -63,16 +59,16 @@ impl Seen {
             node: free,
             split: split::dummy_key(x.making),
         };
-        x.dummy = free;
-        x.errand = errand::DUMMY;
-        x.place = place::F1;
-        Move::Going { worker: x, effect }
+        Move::Going {
+            worker: x.with_dummy(free).on_errand(errand::DUMMY).to(place::F1),
+            effect,
+        }
     }
 
     pub(super) fn b8(self) -> Move
         ensures { λ r. ⌜ r ≡ b8 self ⌝ }
     {
-        let mut x = self.worker;
+        let x = self.worker;
         if x.dummy == 0 {
             return Move::Damaged;
         }
@@ -80,13 +76,17 @@ impl Seen {
             bucket: x.making,
             node: x.dummy,
         };
-        x.dummy = 0;
+        let made = x.with_dummy(0);
         if x.making == x.wanted {
-            x.place = place::TB;
-            return Move::Going { worker: x, effect };
+            return Move::Going {
+                worker: made.to(place::TB),
+                effect,
+            };
         }
-        x.making = tree::next_down(x.wanted, x.making);
-        x.place = place::B2;
-        Move::Going { worker: x, effect }
+        Move::Going {
+            worker: made.to_make(tree::next_down(x.wanted, x.making))
+                .to(place::B2),
+            effect,
+        }
     }
 }

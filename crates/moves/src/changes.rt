@@ -2,9 +2,9 @@
 ghost use mathlib.Core.Path.{_≡_};
 ghost use Rattle.moves.specs.Moves.{l2, placed, i1, sz, i8, i9, i10, d4a, d4b, d6};
 use crate::Seen;
-use crate::going;
 use crate::held_for;
 use crate::is_to;
+use crate::on;
 use crate::remainder;
 use acts::Effect;
 use acts::Move;
@@ -17,7 +17,7 @@ impl Seen {
     pub(super) fn l2(self) -> Move
         ensures { λ r. ⌜ r ≡ l2 self ⌝ }
     {
-        let mut x = self.worker;
+        let x = self.worker;
         let held = held_for(x);
         let itself = x.prev == held;
         if (held == 0) | (x.prev == 0) | (!itself & self.bad_link()) {
@@ -26,9 +26,8 @@ impl Seen {
         if itself | is_to(self.word, x.cur) {
             return self.placed(held);
         }
-        x.place = place::F1;
         Move::Going {
-            worker: x,
+            worker: x.to(place::F1),
             effect: Effect::Aim {
                 node: held,
                 next: x.cur,
@@ -40,25 +39,28 @@ impl Seen {
     fn placed(self, held: u32) -> Move
         ensures { λ r. ⌜ r ≡ placed self held ⌝ }
     {
-        let mut x = self.worker;
+        let x = self.worker;
         let effect = Effect::Place {
             node: held,
             next: x.cur,
             prev: x.prev,
         };
         if x.errand == errand::DUMMY {
-            x.place = place::B8;
-            return Move::Going { worker: x, effect };
+            return Move::Going {
+                worker: x.to(place::B8),
+                effect,
+            };
         }
-        x.held = 0;
-        x.place = place::I8;
-        Move::Going { worker: x, effect }
+        Move::Going {
+            worker: x.holding(0).to(place::I8),
+            effect,
+        }
     }
 
     pub(super) fn i1(self) -> Move
         ensures { λ r. ⌜ r ≡ i1 self ⌝ }
     {
-        let mut x = self.worker;
+        let x = self.worker;
         let free = self.word;
         if free == 0 {
             return Move::Ended {
@@ -70,38 +72,38 @@ impl Seen {
             node: free,
             split: split::regular_key(x.key),
         };
-        x.held = free;
-        x.place = place::SZ;
-        Move::Going { worker: x, effect }
+        Move::Going {
+            worker: x.holding(free).to(place::SZ),
+            effect,
+        }
     }
 
     pub(super) fn sz(self) -> Move
         ensures { λ r. ⌜ r ≡ sz self ⌝ }
     {
-        let mut x = self.worker;
-        x.wanted = remainder(x.key, self.header.size);
-        going(x, place::TB)
+        let x = self.worker;
+        on(x.wanting(remainder(x.key, self.header.size)).to(place::TB))
     }
 
     pub(super) fn i8(self) -> Move
         ensures { λ r. ⌜ r ≡ i8 self ⌝ }
     {
-        let mut x = self.worker;
-        x.size = self.header.size;
-        going(x, place::I9)
+        let x = self.worker;
+        on(x.remembering(self.header.size).to(place::I9))
     }
 
     pub(super) fn i9(self) -> Move
         ensures { λ r. ⌜ r ≡ i9 self ⌝ }
     {
-        let mut x = self.worker;
+        let x = self.worker;
         let h = self.header;
-        let effect = Effect::Count {
-            value: std::num::wrapping_add_u32(h.count, 1),
-        };
+        let up = h.counted_up();
+        let effect = Effect::Count { value: up.count };
         if h.doubles(x.size, h.count) {
-            x.place = place::I10;
-            return Move::Going { worker: x, effect };
+            return Move::Going {
+                worker: x.to(place::I10),
+                effect,
+            };
         }
         Move::Ended {
             answer: Answer::Yes,
@@ -130,28 +132,26 @@ impl Seen {
     pub(super) fn d4a(self) -> Move
         ensures { λ r. ⌜ r ≡ d4a self ⌝ }
     {
-        let mut x = self.worker;
+        let x = self.worker;
         if (x.cur == 0) | self.bad_link() {
             return Move::Damaged;
         }
         if is_to(self.word, x.next) {
-            x.place = place::D4B;
             return Move::Going {
-                worker: x,
+                worker: x.to(place::D4B),
                 effect: Effect::Mark {
                     node: x.cur,
                     next: x.next,
                 },
             };
         }
-        x.errand = errand::KEY;
-        going(x, place::F1)
+        on(x.on_errand(errand::KEY).to(place::F1))
     }
 
     pub(super) fn d4b(self) -> Move
         ensures { λ r. ⌜ r ≡ d4b self ⌝ }
     {
-        let mut x = self.worker;
+        let x = self.worker;
         if (x.prev == 0) | self.bad_link() {
             return Move::Damaged;
         }
@@ -159,9 +159,8 @@ impl Seen {
             if x.cur == 0 {
                 return Move::Damaged;
             }
-            x.place = place::D6;
             return Move::Going {
-                worker: x,
+                worker: x.to(place::D6),
                 effect: Effect::Unlink {
                     prev: x.prev,
                     next: x.next,
@@ -170,18 +169,16 @@ impl Seen {
                 },
             };
         }
-        x.errand = errand::EXTRA;
-        going(x, place::F1)
+        on(x.on_errand(errand::EXTRA).to(place::F1))
     }
 
     pub(super) fn d6(self) -> Move
         ensures { λ r. ⌜ r ≡ d6 self ⌝ }
     {
+        let down = self.header.counted_down();
         Move::Ended {
             answer: Answer::Yes,
-            effect: Effect::Count {
-                value: std::num::wrapping_sub_u32(self.header.count, 1),
-            },
+            effect: Effect::Count { value: down.count },
         }
     }
 }

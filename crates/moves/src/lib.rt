@@ -1,7 +1,6 @@
 // What one step does, place by place, decided from numbers alone: the header, the record and the word that the step read.
 ghost use mathlib.Core.Path.{_≡_};
 ghost use Prim.Native.Nat.{_%_};
-ghost use Rattle.record.specs.Fields.{to};
 ghost use Rattle.words.specs.Words.{isTo};
 ghost use Rattle.moves.specs.Moves.{on, badLink, wantOf, heldFor, notFound, found, foundKey, comes, f1, f2, f3, judged, f4, decided};
 use acts::Effect;
@@ -61,28 +60,31 @@ fn held_for(x: Worker) -> u32
     x.held
 }
 
-// The operation goes on at another place, and nothing is written.
-fn going(mut x: Worker, place: u32) -> Move
-    ensures { λ r. ⌜ r ≡ on (to place x) ⌝ }
+// The operation goes on with this record, and nothing is written.
+fn on(worker: Worker) -> Move
+    ensures { λ r. ⌜ r ≡ on worker ⌝ }
 {
-    x.place = place;
     Move::Going {
-        worker: x,
+        worker,
         effect: Effect::Nothing,
     }
 }
 
 // The search ended without the wanted split key.
-fn not_found(mut x: Worker, effect: Effect) -> Move
+fn not_found(x: Worker, effect: Effect) -> Move
     ensures { λ r. ⌜ r ≡ notFound x effect ⌝ }
 {
     if x.errand == errand::EXTRA {
-        x.place = place::D6;
-        return Move::Going { worker: x, effect };
+        return Move::Going {
+            worker: x.to(place::D6),
+            effect,
+        };
     }
     if (x.errand == errand::DUMMY) | (x.kind == kind::INSERT) {
-        x.place = place::L2;
-        return Move::Going { worker: x, effect };
+        return Move::Going {
+            worker: x.to(place::L2),
+            effect,
+        };
     }
     Move::Ended {
         answer: Answer::No,
@@ -91,11 +93,11 @@ fn not_found(mut x: Worker, effect: Effect) -> Move
 }
 
 // The search ended at cur: another worker's dummy is used in the place of the one held.
-fn found(mut x: Worker) -> Move
+fn found(x: Worker) -> Move
     ensures { λ r. ⌜ r ≡ found x ⌝ }
 {
     if x.errand == errand::EXTRA {
-        return going(x, place::D6);
+        return on(x.to(place::D6));
     }
     if x.errand == errand::KEY {
         return found_key(x);
@@ -103,17 +105,14 @@ fn found(mut x: Worker) -> Move
     if x.dummy == 0 {
         return Move::Damaged;
     }
-    let spare = x.dummy;
-    x.dummy = x.cur;
-    x.place = place::B8;
     Move::Going {
-        worker: x,
-        effect: Effect::Free { node: spare },
+        worker: x.with_dummy(x.cur).to(place::B8),
+        effect: Effect::Free { node: x.dummy },
     }
 }
 
 // The key is there: no to an insert, whose node the end frees; yes to a find; a delete goes to D4a.
-fn found_key(mut x: Worker) -> Move
+fn found_key(x: Worker) -> Move
     ensures { λ r. ⌜ r ≡ foundKey x ⌝ }
 {
     if x.kind == kind::INSERT {
@@ -131,20 +130,21 @@ fn found_key(mut x: Worker) -> Move
             effect: Effect::Nothing,
         };
     }
-    going(x, place::D4A)
+    on(x.to(place::D4A))
 }
 
 // The search comes to cur, after prev: the end of the chain, or F2.
-fn comes(mut x: Worker, prev: u32, cur: u32, effect: Effect) -> Move
+fn comes(x: Worker, prev: u32, cur: u32, effect: Effect) -> Move
     ensures { λ r. ⌜ r ≡ comes x prev cur effect ⌝ }
 {
-    x.prev = prev;
-    x.cur = cur;
+    let there = x.coming_to(prev, cur);
     if cur == 0 {
-        return not_found(x, effect);
+        return not_found(there, effect);
     }
-    x.place = place::F2;
-    Move::Going { worker: x, effect }
+    Move::Going {
+        worker: there.to(place::F2),
+        effect,
+    }
 }
 
 impl Seen {
@@ -168,35 +168,33 @@ impl Seen {
     fn f2(self) -> Move
         ensures { λ r. ⌜ r ≡ f2 self ⌝ }
     {
-        let mut x = self.worker;
+        let x = self.worker;
         if (x.cur == 0) | self.bad_link() {
             return Move::Damaged;
         }
-        x.next = self.word / 2;
-        x.marked = self.word % 2 == 1;
-        going(x, place::F3)
+        on(x.reading(self.word).to(place::F3))
     }
 
     fn f3(self) -> Move
         ensures { λ r. ⌜ r ≡ f3 self ⌝ }
     {
-        let mut x = self.worker;
+        let x = self.worker;
         if (x.prev == 0) | self.bad_link() {
             return Move::Damaged;
         }
         if is_to(self.word, x.cur) {
             return self.judged();
         }
-        going(x, place::F1)
+        on(x.to(place::F1))
     }
 
     // prev's link was unmarked with next cur: cur was marked at F2, or its split key is compared.
     fn judged(self) -> Move
         ensures { λ r. ⌜ r ≡ judged self ⌝ }
     {
-        let mut x = self.worker;
+        let x = self.worker;
         if x.marked {
-            return going(x, place::F4);
+            return on(x.to(place::F4));
         }
         if x.cur == 0 {
             return Move::Damaged;
@@ -214,7 +212,7 @@ impl Seen {
     fn f4(self) -> Move
         ensures { λ r. ⌜ r ≡ f4 self ⌝ }
     {
-        let mut x = self.worker;
+        let x = self.worker;
         if (x.prev == 0) | self.bad_link() {
             return Move::Damaged;
         }
@@ -230,7 +228,7 @@ impl Seen {
             };
             return comes(x, x.prev, x.next, unlink);
         }
-        going(x, place::F1)
+        on(x.to(place::F1))
     }
 
     // One step's decision, at the record's place.

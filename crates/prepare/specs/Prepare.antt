@@ -1,23 +1,25 @@
 -- Preparing: a table of refusals, and what a fresh register holds.
 use Prim.Native.Nat.{ℕ, _*_}
 use mathlib.Core.List.{[], _∷_}
+use Rattle.choice.specs.Choice.{pick}
 use Rattle.choice.specs.Table.{firstOf}
 use Rattle.words.specs.declared.Lengths.{Lengths}
 use Rattle.words.specs.Words.{Tables, tables, lengths, Left, left, STANDING, TAKEN, put, store}
 use Rattle.scans.specs.Scans.{cleared}
+use Rattle.names.specs.declared.Answer.{Answer}
 use Rattle.names.specs.declared.Answer.the-variants.{Going, Limit, Short}
 use Rattle.names.specs.declared.Verdict.{Verdict}
 use Rattle.names.specs.declared.Verdict.the-variants.{Pass, Refused}
 use Rattle.names.specs.Verdicts.{refusedIf}
 use Rattle.header.specs.declared.Header.{Header}
-use Rattle.header.specs.Header.{nodesOf, limitBroken, isShort}
+use Rattle.header.specs.Header.{fresh, nodesOf, limitBroken, isShort}
 use Rattle.acts.specs.declared.Called.{Called}
 use Rattle.acts.specs.Acts.{answered}
 use Rattle.prepare.specs.declared.Limits.{Limits}
 
 -- size 2, count 0, nobody busy
 abbrev pub freshHeader : Limits → Header
-freshHeader l = record { m = l .m; k = l .k; w = l .w; l = l .l; size = 2; count = 0; busy = 0 }
+freshHeader l = fresh (l .m) (l .k) (l .w) (l .l)
 
 -- 10, then 11
 unfoldable pub prepareVerdict : Limits → Lengths → Verdict
@@ -27,6 +29,10 @@ prepareVerdict l lengths =
     ∷ refusedIf Short (isShort (freshHeader l) lengths)
     ∷ [])
     Pass
+
+-- fewer records than W: 10, then 11
+unfoldable pub tooFewFor : Limits → Answer
+tooFewFor l = pick (limitBroken (freshHeader l)) Limit Short
 
 -- all node words 0 but node 1, which is taken; bucket 0 holds 1, the others 0; the words past these as they were
 abbrev pub freshTables : Header → Tables → Tables

@@ -1,7 +1,7 @@
 // Preparing a register over the lent tables.
 ghost use mathlib.Core.Path.{_≡_};
 ghost use Rattle.words.specs.Words.{tables, left};
-ghost use Rattle.prepare.specs.Prepare.{freshHeader, prepareVerdict, prepared};
+ghost use Rattle.prepare.specs.Prepare.{freshHeader, prepareVerdict, tooFewFor, prepared};
 use acts::Called;
 use header::Header;
 use names::Answer;
@@ -21,15 +21,7 @@ impl Limits {
     fn fresh_header(self) -> Header
         ensures { λ r. ⌜ r ≡ freshHeader self ⌝ }
     {
-        Header {
-            m: self.m,
-            k: self.k,
-            w: self.w,
-            l: self.l,
-            size: 2,
-            count: 0,
-            busy: 0,
-        }
+        Header::fresh(self.m, self.k, self.w, self.l)
     }
 
     // 10, then 11.
@@ -44,6 +36,16 @@ impl Limits {
             return Verdict::Refused(Answer::Short);
         }
         Verdict::Pass
+    }
+
+    // 10, then 11: there are fewer records than the W that is asked for.
+    pub fn too_few(self) -> Answer
+        ensures { λ r. ⌜ r ≡ tooFewFor self ⌝ }
+    {
+        if self.fresh_header().limit_broken() {
+            return Answer::Limit;
+        }
+        Answer::Short
     }
 
     // A register over the lent tables: every node free but node 1, bucket 0's dummy; nothing past the tables' own words is written.

@@ -26,13 +26,13 @@ use Rattle.header.proofs.Rows.{limit-broken, header-damaged}
 use Rattle.record.specs.declared.Worker.{Worker}
 use Rattle.record.specs.Worker.{idle}
 use Rattle.acts.specs.declared.Outcome.{Outcome}
-use Rattle.prepare.specs.Prepare.{freshHeader, prepared}
+use Rattle.prepare.specs.Prepare.{freshHeader, tooFewFor, prepared}
 use Rattle.register.specs.declared.Call.{Call}
 use Rattle.register.specs.declared.Call.the-variants.{Start, Step}
 use Rattle.register.specs.declared.Turn.{Turn}
 use Rattle.register.specs.Calls.{askedOf}
 use Rattle.crew.specs.declared.Ready.{Ready}
-use Rattle.crew.specs.Crew.{crew, turnAt, oneCall, stored, callAt, filled, tooFewFor, prepareOne}
+use Rattle.crew.specs.Crew.{crew, turnAt, oneCall, stored, callAt, filled, prepareOne}
 use Rattle.crew.proofs.Laws.{filled-none}
 use Rattle.promises.specs.Unchanged.{Refusal, Untouched}
 use Rattle.promises.specs.Tables.{AllAsBefore, UnchangedIn, PrepareAtExactly, StartAtExactly, StepAtExactly, PrepareAtUnchanged, StartAtUnchanged, StepAtUnchanged}

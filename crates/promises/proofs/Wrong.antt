@@ -12,11 +12,11 @@ use Rattle.sets.specs.Sets.{bit, isIn, dropped, raised}
 use Rattle.scans.specs.Scans.{leave, sweep, freeFrom, freeNode}
 use Rattle.names.specs.Names.{numberOf}
 use Rattle.header.specs.Header.{limitBroken, sizeBroken, busyBeyond, headerDamaged, doubles}
-use Rattle.record.specs.Worker.{begun, heldKey, heldDummy}
+use Rattle.record.specs.Worker.{begun, tick, heldKey, heldDummy}
 use Rattle.faults.specs.Faults.{unknownName, bucketBeyond, nodeBeyond, bitDisagrees, idleNotZero, kindMisfit, errandMisfit, makingAstray, sizeMisfit, workerDamaged}
 use Rattle.moves.specs.Moves.{badLink, heldFor, notFound, comes, f1, placed, l2, tb, b4, i1, sz, i8, i9, d4b, d6, decidedAt, decided}
 use Rattle.acts.specs.declared.Outcome.{Outcome}
-use Rattle.writes.specs.Carry.{tick, closedBy}
+use Rattle.writes.specs.Carry.{closedBy}
 use Rattle.register.specs.Step.{wordGiven, askedAt, wordAt, wordFor, splitFor}
 use Rattle.header.specs.Header.{isShort}
 use Rattle.register.specs.Calls.{startVerdict, startOf, stepVerdict, stepOf}

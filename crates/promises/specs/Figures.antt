@@ -6,7 +6,7 @@ use mathlib.Core.Path.{_≡_}
 use Rattle.split.specs.Split.{regular, dummy}
 use Rattle.tree.specs.Tree.{parentOf}
 use Rattle.header.specs.declared.Header.{Header}
-use Rattle.header.specs.Header.{doubles}
+use Rattle.header.specs.Header.{fresh, doubles}
 
 -- a figure: what is asked, and what comes out
 pub data Figure : Type 0 where
@@ -17,7 +17,7 @@ pub data Figure : Type 0 where
 
 -- a header of which the load test reads M and L
 abbrev pub loaded : ℕ → ℕ → Header
-loaded m l = record { m = m; k = 1; w = 1; l = l; size = 2; count = 0; busy = 0 }
+loaded m l = fresh m 1 1 l
 
 -- the definition gives what the figure says
 abbrev pub Right : Figure → Type 0

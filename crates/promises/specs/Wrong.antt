@@ -11,10 +11,10 @@ use Rattle.words.specs.Words.{Tables, tables, lengths, Left, left, TAKEN, store
 use Rattle.names.specs.Names.{I1, SZ, TB, B4, D4B, D6, KEY, INSERT, FIND, DELETE, goesOn}
 use Rattle.names.specs.declared.Answer.the-variants.{Going as GoingOn, Yes, Damaged as IsDamaged}
 use Rattle.header.specs.declared.Header.{Header}
-use Rattle.header.specs.Header.{counted, busied, doubles}
+use Rattle.header.specs.Header.{fresh as freshHeader, sized, counted, busied, doubles}
 use Rattle.record.specs.declared.Worker.{Worker}
 use Rattle.record.specs.Fields.{to, withSteps}
-use Rattle.record.specs.Worker.{fresh, idle}
+use Rattle.record.specs.Worker.{fresh, idle, ticked}
 use Rattle.moves.specs.declared.Seen.{Seen}
 use Rattle.acts.specs.declared.Effect.{Effect}
 use Rattle.acts.specs.declared.Effect.the-variants.{Nothing, TakeKey, TakeDummy, Free, Aim, Place, Mark, Unlink, Store, Count, Size}
@@ -26,7 +26,6 @@ use Rattle.acts.specs.declared.Outcome.{Outcome}
 use Rattle.acts.specs.Acts.{handedBack}
 use Rattle.names.specs.declared.Verdict.{Verdict}
 use Rattle.names.specs.declared.Verdict.the-variants.{Pass, Refused}
-use Rattle.writes.specs.Carry.{tick}
 use Rattle.register.specs.Step.{refusedWith, wordFor, seenBy, carried}
 use Rattle.register.specs.Calls.{startOf, stepVerdict, stepOf}
 use Rattle.promises.specs.Access.{placeOf}
@@ -41,7 +40,7 @@ Breaks wrong t ts = wrong t ts ≡ stepOf t ts → ⊥
 
 -- ---- the inputs
 abbrev pub header : (size count : ℕ) → Header
-header size count = record { m = 4; k = 1; w = 2; l = 1; size = size; count = count; busy = 3 }
+header size count = busied 3 (counted count (sized size (freshHeader 4 1 2 1)))
 
 -- worker 0's turn, with worker 1 busy too
 abbrev pub turn : Header → Worker → Turn
@@ -120,7 +119,7 @@ toTheEnd (suc most) t ts =
 unfoldable pub allAtOnce : Step
 allAtOnce t ts =
     let whole = toTheEnd 20 t ts in
-    let idling = handedBack GoingOn (t .header) (withSteps (tick (t .worker .steps)) (t .worker)) in
+    let idling = handedBack GoingOn (t .header) (ticked (t .worker)) in
     pick (eqb (t .worker .steps) 0) (left (stepOf t ts .out) (whole .tables)) (left idling ts)
 
 -- "one that invents its count": D6 leaves it

@@ -1,9 +1,10 @@
--- The worker's record: a fresh one, the idle one, the one that starts, and what a record holds.
-use Prim.Native.Nat.{ℕ}
+-- The worker's record: a fresh one, the idle one, the one that starts, changes of two fields or by a rule, and what a record holds.
+use Prim.Native.Nat.{ℕ, _+_, _/_, _%_}
 use mathlib.Core.Bool.{Bool, false, not, _&&_}
-use lib.Dec.{leb, eqb}
+use lib.Dec.{leb, ltb, eqb}
 use Rattle.choice.specs.Choice.{pick}
-use Rattle.names.specs.Names.{IDLE, I1, SZ, F1, L2, B8, KEY, DUMMY, EXTRA, INSERT}
+use Rattle.names.specs.Names.{IDLE, I1, SZ, F1, L2, B8, KEY, DUMMY, EXTRA, INSERT, CEILING}
+use Rattle.record.specs.Fields.{withPrev, withCur, withNext, withMarked, withSteps}
 use Rattle.record.specs.declared.Worker.{Worker}
 use Rattle.record.specs.declared.Held.{Held}
 
@@ -17,6 +18,22 @@ idle = fresh IDLE 0 0
 -- what a start sets: an insert begins at I1, find and delete at SZ
 unfoldable pub begun : ℕ → ℕ → Worker
 begun kind key = fresh (pick (eqb kind INSERT) I1 SZ) kind key
+
+-- ---- changes
+-- the search comes to cur, after prev
+abbrev pub comingTo : ℕ → ℕ → Worker → Worker
+comingTo prev cur x = withCur cur (withPrev prev x)
+
+-- the link that was read: its next node, and its mark
+abbrev pub reading : ℕ → Worker → Worker
+reading link x = withMarked (eqb (link % 2) 1) (withNext (link / 2) x)
+
+-- a record counts its operation's steps and stays at the ceiling
+unfoldable pub tick : ℕ → ℕ
+tick steps = pick (ltb steps CEILING) (steps + 1) steps
+
+abbrev pub ticked : Worker → Worker
+ticked x = withSteps (tick (x .steps)) x
 
 -- ---- what a record holds, over place, errand and kind alone
 abbrev pub within : ℕ → ℕ → ℕ → Bool

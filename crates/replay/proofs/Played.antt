@@ -22,9 +22,9 @@ use Rattle.record.specs.declared.Worker.{Worker}
 use Rattle.record.specs.Worker.{idle, within}
 use Rattle.prepare.specs.declared.Limits.{Limits}
 use Rattle.names.specs.declared.Verdict.the-variants.{Refused}
-use Rattle.prepare.specs.Prepare.{freshHeader, prepareVerdict}
+use Rattle.prepare.specs.Prepare.{freshHeader, prepareVerdict, tooFewFor}
 use Rattle.prepare.specs.Prepare.{prepared as register-prepared}
-use Rattle.crew.specs.Crew.{Left, tooFewFor, prepareAt}
+use Rattle.crew.specs.Crew.{Left, prepareAt}
 use Rattle.lines.specs.Lines.{kindNamed, endedLine, refusedLine}
 use Rattle.lines.proofs.Joined.{ended-none}
 use Rattle.replay.specs.declared.Operation.{Operation}

@@ -9,7 +9,7 @@ use Rattle.names.specs.Names.{numberOf}
 use Rattle.names.specs.declared.Answer.{Answer}
 use Rattle.names.specs.declared.Answer.the-variants.{Going}
 use Rattle.header.specs.declared.Header.{Header}
-use Rattle.header.specs.Header.{outside}
+use Rattle.header.specs.Header.{fresh, outside}
 use Rattle.record.specs.declared.Worker.{Worker}
 use Rattle.record.specs.Worker.{idle, within}
 use Rattle.prepare.specs.declared.Limits.{Limits}
@@ -30,7 +30,7 @@ limitsOf body = record { m = bucketsOf (getD body 0 0); k = littleEndian 2 body 
 
 -- no header yet
 abbrev pub blank : Header
-blank = record { m = 0; k = 0; w = 0; l = 0; size = 0; count = 0; busy = 0 }
+blank = fresh 0 0 0 0
 
 -- the register that the body asks for, over lent words
 unfoldable pub prepared : List ℕ → List ℕ → List ℕ → Left

@@ -14,7 +14,6 @@ use crew::Called;
 use header::Header;
 use lines::Line;
 use names::Answer;
-use names::place;
 use prepare::Limits;
 use record::Worker;
 use script::Entry;
@@ -70,16 +69,8 @@ fn ready(body: &[u8], nodes: &mut [u32], buckets: &mut [u32]) -> Bank
     ensures { λ r. ⌜ left (r .called) (r .workers) (now (nodes .exit)) (now (buckets .exit)) ≡ prepared (now (body .entry)) (now (nodes .entry)) (now (buckets .entry)) ⌝ }
 {
     let limits = limits_of(body);
-    let idle = Worker::fresh(place::IDLE, 0, 0);
-    let blank = Header {
-        m: 0,
-        k: 0,
-        w: 0,
-        l: 0,
-        size: 0,
-        count: 0,
-        busy: 0,
-    };
+    let idle = Worker::idle();
+    let blank = Header::fresh(0, 0, 0, 0);
     bank::prepare([idle; 16], limits, blank, nodes, buckets)
 }
 

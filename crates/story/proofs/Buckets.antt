@@ -24,14 +24,13 @@ use Rattle.header.specs.declared.Header.{Header}
 use Rattle.header.specs.Header.{dummiesOf, nodesOf}
 use Rattle.record.specs.declared.Worker.{Worker}
 use Rattle.record.specs.Fields.{to, withErrand, withWanted, withMaking, withStart, withDummy}
-use Rattle.record.specs.Worker.{heldKey, heldDummy}
+use Rattle.record.specs.Worker.{ticked, heldKey, heldDummy}
 use Rattle.acts.specs.declared.Effect.the-variants.{TakeDummy, Store}
 use Rattle.acts.specs.declared.Move.{Move}
 use Rattle.acts.specs.declared.Move.the-variants.{Going}
 use Rattle.moves.specs.Moves.{tb, b2, b4, b8, sz}
 use Rattle.writes.specs.Writes.{taken}
 use Rattle.register.specs.Chain.{key, standing}
-use Rattle.story.specs.Trace.{ticked}
 use Rattle.story.proofs.Chain.{some-on}
 use Rattle.story.proofs.Registers.{unmoved}
 use Rattle.story.proofs.Facts as F

@@ -22,7 +22,7 @@ use Rattle.names.specs.declared.Answer.the-variants.{Going as GoingOn, Short, D
 use Rattle.header.specs.declared.Header.{Header}
 use Rattle.header.specs.Header.{headerDamaged}
 use Rattle.record.specs.declared.Worker.{Worker}
-use Rattle.record.specs.Worker.{idle, begun, heldKey, heldDummy}
+use Rattle.record.specs.Worker.{idle, begun, ticked, heldKey, heldDummy}
 use Rattle.faults.specs.Faults.{workerDamaged}
 use Rattle.moves.specs.declared.Seen.{Seen}
 use Rattle.acts.specs.declared.Move.{Move}
@@ -43,7 +43,7 @@ use Rattle.promises.proofs.Shape.{Final, effect-at}
 use Rattle.register.specs.Chain.{key, link}
 use Rattle.register.specs.Events.{Event, nothing, added, removed, written, taking}
 use Rattle.story.specs.Run.{Call, start, step}
-use Rattle.story.specs.Trace.{Quiet, Keeps, Shared, workerOf, turnOf, seenAt, Done, doneBy, startDone, moveDone, stepDone, done, Called, ticked, Paused, Next, calls, pause}
+use Rattle.story.specs.Trace.{Quiet, Keeps, Shared, workerOf, turnOf, seenAt, Done, doneBy, startDone, moveDone, stepDone, done, Called, Paused, Next, calls, pause}
 use Rattle.story.proofs.Registers.{Change, unmoved}
 use Rattle.story.proofs.Facts.{Spot, i1, sz, tb, b2, b4, f1, f2, f3, f4, l2, b8, i8, i9, i10, d4a, d4b, d6, number, At, keyOf, dummyOf, Busy, Fact}
 use Rattle.story.proofs.Stable as st

@@ -12,9 +12,9 @@ use lib.Seq.{getD-set-same, getD-set-other}
 use Rattle.choice.proofs.Cases.{both}
 use Rattle.names.specs.Names.{INSERT}
 use Rattle.header.specs.declared.Header.{Header}
+use Rattle.header.specs.Header.{countUp, countDown}
 use Rattle.record.specs.declared.Worker.{Worker}
 use Rattle.record.specs.Worker.{idle, fresh, begun}
-use Rattle.moves.specs.Moves.{countUp, countDown}
 use Rattle.register.specs.Events.{Event, nothing, adds, removes, all, uncountedIn, uncountedOut, sumOf}
 use Rattle.story.specs.Trace.{Shared, workerOf, First, Trace, state, answerAt, eventAt, Count}
 use Rattle.story.proofs.Tally.{Tally, none}

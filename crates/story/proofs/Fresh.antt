@@ -31,9 +31,9 @@ use Rattle.record.specs.declared.Worker.{Worker}
 use Rattle.record.specs.Worker.{idle}
 use Rattle.prepare.specs.declared.Limits.{Limits}
 use Rattle.names.specs.declared.Verdict.{Verdict}
-use Rattle.prepare.specs.Prepare.{Kept, freshHeader, prepareVerdict, preparedBy, prepared}
+use Rattle.prepare.specs.Prepare.{Kept, freshHeader, prepareVerdict, tooFewFor, preparedBy, prepared}
 use Rattle.header.specs.Header.{isShort}
-use Rattle.crew.specs.Crew.{Left, tooFewFor, filled, idled, prepareAt}
+use Rattle.crew.specs.Crew.{Left, filled, idled, prepareAt}
 use Rattle.promises.proofs.Fresh.{prepare-fresh}
 use Rattle.register.specs.Chain.{key, link, standing}
 use Rattle.story.specs.Run.{State, stateOf}

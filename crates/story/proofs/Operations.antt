@@ -21,7 +21,7 @@ use Rattle.scans.proofs.Laws.{free-node}
 use Rattle.names.specs.Names.{SZ, F1, B8, I8, I9, D4B, D6, KEY, DUMMY, EXTRA, INSERT, FIND}
 use Rattle.names.specs.declared.Answer.the-variants.{Yes, NoKeyNode}
 use Rattle.header.specs.declared.Header.{Header}
-use Rattle.header.specs.Header.{dummiesOf, nodesOf}
+use Rattle.header.specs.Header.{countUp, countDown, dummiesOf, nodesOf, doubles}
 use Rattle.header.specs.Rows.{PowerFromTo}
 use Rattle.header.proofs.Laws.{doubles-below}
 use Rattle.record.specs.declared.Worker.{Worker}
@@ -29,7 +29,7 @@ use Rattle.record.specs.Fields.{to, withErrand, withSize, withHeld}
 use Rattle.record.specs.Worker.{heldKey, heldDummy}
 use Rattle.acts.specs.declared.Effect.the-variants.{TakeKey, Aim, Place, Mark, Unlink}
 use Rattle.acts.specs.declared.Move.the-variants.{Going}
-use Rattle.moves.specs.Moves.{badLink, heldFor, placed, l2, i1, i8, i9, i10, d4a, d4b, d6, countUp, countDown}
+use Rattle.moves.specs.Moves.{badLink, heldFor, placed, l2, i1, i8, i9, i10, d4a, d4b, d6}
 use Rattle.register.specs.Chain.{key, link, standing}
 use Rattle.register.specs.Events.{Event, nothing, added}
 use Rattle.story.proofs.Chain.{putAfter, cutAfter, put-new}

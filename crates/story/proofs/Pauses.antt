@@ -15,7 +15,8 @@ use Rattle.names.specs.declared.Answer.{Answer}
 use Rattle.names.specs.declared.Answer.the-variants.{Going}
 use Rattle.register.specs.Events.{Event, nothing}
 use Rattle.story.specs.Run.{Call, start, step, Run, state}
-use Rattle.story.specs.Trace.{Shared, workerOf, done, ticked, Next, calls, pause, Trace}
+use Rattle.record.specs.Worker.{ticked}
+use Rattle.story.specs.Trace.{Shared, workerOf, done, Next, calls, pause, Trace}
 use Rattle.story.proofs.Ends.{valued, keeps-valued}
 use Rattle.story.proofs.Calls.{laid}
 use Rattle.story.proofs.Runs.{shared, first}

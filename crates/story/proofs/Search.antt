@@ -20,7 +20,7 @@ use Rattle.header.specs.declared.Header.{Header}
 use Rattle.header.specs.Header.{dummiesOf, nodesOf}
 use Rattle.record.specs.declared.Worker.{Worker}
 use Rattle.record.specs.Fields.{to, withPrev, withCur, withDummy}
-use Rattle.record.specs.Worker.{heldKey, heldDummy}
+use Rattle.record.specs.Worker.{ticked, heldKey, heldDummy}
 use Rattle.acts.specs.declared.Effect.{Effect}
 use Rattle.acts.specs.declared.Effect.the-variants.{Nothing, Free, Unlink}
 use Rattle.acts.specs.declared.Move.{Move}
@@ -29,7 +29,6 @@ use Rattle.moves.specs.Moves.{notFound, foundKey, found, comes, f1, f2, judged,
 use Rattle.register.specs.Chain.{key, link, after, mark}
 use Rattle.register.specs.Events.{nothing}
 use Rattle.story.proofs.Memory.{key-of-standing}
-use Rattle.story.specs.Trace.{ticked}
 use Rattle.story.proofs.Chain.{cutAfter, succ-in}
 use Rattle.story.proofs.Facts as F
 use Rattle.story.proofs.Facts.{Safe, Held, Nodes, forKey, forDummy, forExtra, AimOf, Start, Beyond, Root, Sane, Searches, Passes, wantBy, inHand, sought, Later}

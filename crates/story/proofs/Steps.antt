@@ -19,7 +19,7 @@ use Rattle.names.specs.declared.Answer.the-variants.{Yes, No}
 use Rattle.header.specs.declared.Header.{Header}
 use Rattle.header.specs.Header.{nodesOf, busied}
 use Rattle.record.specs.declared.Worker.{Worker}
-use Rattle.record.specs.Worker.{idle, within, heldKey, heldDummy}
+use Rattle.record.specs.Worker.{idle, ticked, within, heldKey, heldDummy}
 use Rattle.moves.specs.declared.Seen.{Seen}
 use Rattle.acts.specs.declared.Effect.the-variants.{Nothing}
 use Rattle.acts.specs.declared.Move.{Move}
@@ -31,7 +31,6 @@ use Rattle.register.specs.Step.{closed}
 use Rattle.crew.specs.Crew.{turn}
 use Rattle.register.specs.Chain.{key, link, after, Registered}
 use Rattle.register.specs.Events.{Event, nothing, added, removed, written}
-use Rattle.story.specs.Trace.{ticked}
 use Rattle.story.proofs.Registers.{Same, Change, unmoved}
 use Rattle.story.proofs.Facts.{Nodes, Spot, i1, sz, tb, b2, b4, f1, f2, f3, f4, l2, b8, i8, i9, i10, d4a, d4b, d6, number, At, Sane, wantBy, keyOf, dummyOf, Busy}
 use Rattle.story.proofs.Stable.{Grows}

@@ -10,6 +10,7 @@ use Rattle.choice.specs.Choice.{pick}
 use Rattle.choice.proofs.Cases.{by-eq, both}
 use Rattle.names.specs.Names.{F1, L2, B8, I8, I9, D4B, D6, KEY, DUMMY, EXTRA}
 use Rattle.header.specs.declared.Header.{Header}
+use Rattle.header.specs.Header.{countUp, countDown}
 use Rattle.record.specs.declared.Worker.{Worker}
 use Rattle.names.specs.declared.Answer.{Answer}
 use Rattle.record.specs.Fields.{to, withPrev, withCur, withHeld}
@@ -19,7 +20,7 @@ use Rattle.acts.specs.declared.Effect.{Effect}
 use Rattle.acts.specs.declared.Effect.the-variants.{Nothing}
 use Rattle.acts.specs.declared.Move.{Move}
 use Rattle.acts.specs.declared.Move.the-variants.{Damaged, Going, Ended}
-use Rattle.moves.specs.Moves.{notFound, foundKey, found, comes, f1, f2, judged, f3, f4, placed, l2, tb, b2, b4, b8, i1, sz, i8, i9, i10, d4a, d4b, d6, decidedAt, countUp, countDown}
+use Rattle.moves.specs.Moves.{notFound, foundKey, found, comes, f1, f2, judged, f3, f4, placed, l2, tb, b2, b4, b8, i1, sz, i8, i9, i10, d4a, d4b, d6, decidedAt}
 use Rattle.writes.specs.Writes.{headerAfter}
 use Rattle.register.specs.Events.{Event, nothing, written, adds, removes, all, uncountedIn, uncountedOut}
 use Rattle.story.proofs.Steps.{seen}

@@ -17,8 +17,7 @@ use Rattle.header.specs.declared.Header.{Header}
 use Rattle.header.specs.Header.{nodesOf}
 use Rattle.header.specs.Rows as rows
 use Rattle.record.specs.declared.Worker.{Worker}
-use Rattle.record.specs.Fields.{withSteps}
-use Rattle.record.specs.Worker.{idle, heldKey, heldDummy}
+use Rattle.record.specs.Worker.{idle, ticked, heldKey, heldDummy}
 use Rattle.prepare.specs.declared.Limits.{Limits}
 use Rattle.prepare.specs.Prepare.{freshHeader}
 use Rattle.acts.specs.declared.Move.{Move}
@@ -27,7 +26,7 @@ use Rattle.moves.specs.Moves.{decided}
 use Rattle.writes.specs.declared.Outcome.{Outcome}
 use Rattle.writes.specs.declared.Stores.{Stores}
 use Rattle.writes.specs.declared.Stores.the-variants.{None, Into}
-use Rattle.writes.specs.Carry.{tick, storeOf}
+use Rattle.writes.specs.Carry.{storeOf}
 use Rattle.register.specs.declared.Turn.{Turn}
 use Rattle.register.specs.Step.{refusedWith, askedBucket, seenWith, carriedOn}
 use Rattle.register.specs.Calls.{startVerdict, startedBy, stepVerdict}
@@ -115,9 +114,6 @@ pub record Called (s : Shared) (c : Call) (a : Answer) (ev : Event) (s′ : Shar
   pub values : Keeps (s .header .m) (done s c .stores) (s .value) (s′ .value)
 
 -- a pause: a step of a busy worker that is counted in its record, and does nothing else that the story sees
-abbrev pub ticked : Worker → Worker
-ticked x = withSteps (tick (x .steps)) x
-
 pub record Paused (s : Shared) (c : Call) (a : Answer) (ev : Event) (s′ : Shared) : Type 0 where
   pub who : ℕ
   pub call : c ≡ step who

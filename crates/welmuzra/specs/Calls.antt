@@ -14,9 +14,9 @@ use Rattle.prepare.specs.declared.Prepared.{Prepared}
 use Rattle.register.specs.declared.Ask.{Ask}
 use Rattle.register.specs.declared.Ask.the-variants.{Start, Step}
 use Rattle.register.specs.declared.Turn.{Turn}
-use Rattle.prepare.specs.Prepare.{prepared}
+use Rattle.prepare.specs.Prepare.{tooFewFor, prepared}
 use Rattle.register.specs.Calls.{askedOf}
-use Rattle.crew.specs.Crew.{turn, tooFew, tooFewFor}
+use Rattle.crew.specs.Crew.{turn, tooFew}
 use Rattle.welmuzra.specs.declared.Reply.{Reply}
 use Rattle.welmuzra.specs.Words.{RECORD, headerOf, headerWords, recordOf, recordWords, wordsAt, stored}
 

@@ -3,7 +3,6 @@ ghost use mathlib.Core.Path.{_≡_};
 ghost use mathlib.Core.Bool.{false};
 ghost use Prim.Native.Nat.{_+_, _*_, _≤_};
 ghost use lib.ListN.{length};
-ghost use Rattle.crew.specs.Crew.{tooFewFor};
 ghost use Rattle.crew.specs.One.{noneOf};
 ghost use Rattle.welmuzra.specs.Words.{RECORD, headerOf, headerWords, placeOf, recordOf, recordWords, wordsAt, stored};
 ghost use Rattle.welmuzra.specs.Calls.{own, lent, lacksRecords, says, refuses, kept, askWords, stepWords, startWords, limits, readied, prepareWords};
@@ -144,25 +143,6 @@ fn none(header: Header, few: bool, nodes: usize, buckets: usize) -> Answer
     Answer::NoWorker
 }
 
-// 10, then 11: there are fewer records than the W that is asked for.
-fn too_few_for(limits: Limits) -> Answer
-    ensures { λ r. ⌜ r ≡ tooFewFor limits ⌝ }
-{
-    let fresh = Header {
-        m: limits.m,
-        k: limits.k,
-        w: limits.w,
-        l: limits.l,
-        size: 2,
-        count: 0,
-        busy: 0,
-    };
-    if fresh.limit_broken() {
-        return Answer::Limit;
-    }
-    Answer::Short
-}
-
 // What a call hands back goes into the words, unless it is refused.
 fn keep(header: &mut [u32; 7], records: &mut [u32], w: u32, out: Outcome) -> Reply
     ensures { λ r. ⌜ own r (now (header .exit)) (now (records .exit)) ≡ kept (now (header .entry)) (now (records .entry)) w out ⌝ }
@@ -280,7 +260,7 @@ pub extern "C" fn welmuzra_prepare(
 {
     let limits = Limits { m, k, w, l };
     if lacks_records(records.len(), w) {
-        return refused(too_few_for(limits));
+        return refused(limits.too_few());
     }
     let out = limits.prepare(header_of(*header), nodes, buckets);
     ready(header, records, w, out)

@@ -1,19 +1,15 @@
 -- A decision carried out: the write, and at an ended answer the operation closed.
-use Prim.Native.Nat.{ℕ, _+_}
+use Prim.Native.Nat.{ℕ}
 use mathlib.Core.List.{List}
-use lib.Dec.{ltb}
-use Rattle.choice.specs.Choice.{pick}
 use Rattle.words.specs.Words.{Tables, tables, Left, left, STANDING, put}
 use Rattle.scans.specs.Scans.{sweep}
 use Rattle.sets.specs.Sets.{dropped}
-use Rattle.names.specs.Names.{CEILING}
 use Rattle.names.specs.declared.Answer.{Answer}
 use Rattle.names.specs.declared.Answer.the-variants.{Going as GoingOn, Damaged as IsDamaged}
 use Rattle.header.specs.declared.Header.{Header}
 use Rattle.header.specs.Header.{busied}
 use Rattle.record.specs.declared.Worker.{Worker}
-use Rattle.record.specs.Fields.{withSteps}
-use Rattle.record.specs.Worker.{idle, heldKey, heldDummy}
+use Rattle.record.specs.Worker.{idle, tick, ticked, heldKey, heldDummy}
 use Rattle.acts.specs.declared.Outcome.{Outcome}
 use Rattle.acts.specs.Acts.{handedBack}
 use Rattle.acts.specs.declared.Effect.{Effect}
@@ -21,13 +17,9 @@ use Rattle.acts.specs.declared.Move.{Move}
 use Rattle.acts.specs.declared.Move.the-variants.{Damaged, Going, Ended}
 use Rattle.writes.specs.Writes.{Stores, none, nodesAfter, headerAfter, storedBy, storedIn}
 
--- a record counts its operation's steps and stays at the ceiling
-unfoldable pub tick : ℕ → ℕ
-tick steps = pick (ltb steps CEILING) (steps + 1) steps
-
 -- the operation goes on: the step is counted in the record
 abbrev pub onward : Worker → Effect → Header → Outcome
-onward x e h = handedBack GoingOn (headerAfter e h) (withSteps (tick (x .steps)) x)
+onward x e h = handedBack GoingOn (headerAfter e h) (ticked x)
 
 -- the end: the nodes still held are free, the worker's bit leaves each standing that is a set, up to the last node
 unfoldable pub closedBy : ℕ → ℕ → Worker → List ℕ → List ℕ

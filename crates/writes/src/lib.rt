@@ -1,9 +1,10 @@
 // A decision carried out: what a step's write leaves in the lent tables and in the header, and at an ended answer the operation closed.
 ghost use mathlib.Core.Path.{_≡_};
 ghost use Rattle.words.specs.Words.{tables, left, LINK, put, linkWord, linkTo};
+ghost use Rattle.record.specs.Worker.{tick};
 ghost use Rattle.acts.specs.Acts.{handedBack};
 ghost use Rattle.writes.specs.Writes.{isNothing, taken, tablesAfter, headerAfter};
-ghost use Rattle.writes.specs.Carry.{tick, onward, closedBy, ending, carriedBy};
+ghost use Rattle.writes.specs.Carry.{onward, closedBy, ending, carriedBy};
 use acts::Called;
 use acts::Effect;
 use acts::Move;

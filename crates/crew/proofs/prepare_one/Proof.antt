@@ -13,8 +13,8 @@ use Rattle.crew.proofs.prepare_one.Tie as tie
 cast-if1 : tie.Need-cast-if1
 cast-if1 c = search needs
 
-too-few-for-requires : tie.Need-too-few-for-requires
-too-few-for-requires c κs = tt
+too-few-requires : tie.Need-too-few-requires
+too-few-requires c κs = tt
 
 answered-requires : tie.Need-answered-requires
 answered-requires c κs = tt
@@ -24,7 +24,7 @@ wants-requires c κs = tt
 
 returns : tie.Need-returns
 unfolding prepareOne
-returns c = then-is _ _ _ _ (lt-ltb _ _ (c .before .before .before .if1 .taken)) (rw (c .wants .ensures, c .before .answered .ensures, c .before .before .too-few-for .ensures))
+returns c = then-is _ _ _ _ (lt-ltb _ _ (c .before .before .before .if1 .taken)) (rw (c .wants .ensures, c .before .answered .ensures, c .before .before .too-few .ensures))
 
 prepare-requires : tie.Need-prepare-requires
 prepare-requires c κs = tt
@@ -49,7 +49,7 @@ prepare-one-spec =
     tie.close
     (tie.spec
     cast-if1
-    too-few-for-requires
+    too-few-requires
     answered-requires
     wants-requires
     returns

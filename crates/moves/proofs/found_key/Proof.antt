@@ -25,14 +25,17 @@ returns-3 c = else-is _ _ _ _ (ne-eqb _ _ (c .before .before .if1 .left))
     (then-is _ _ _ _ (eq-eqb _ _ (c .if3 .taken))
     (refl))
 
-going-requires : tie.Need-going-requires
-going-requires c κs = tt
+to-requires : tie.Need-to-requires
+to-requires c κs = tt
+
+on-requires : tie.Need-on-requires
+on-requires c κs = tt
 
 returns-4 : tie.Need-returns-4
 unfolding foundKey
-returns-4 c = else-is _ _ _ _ (ne-eqb _ _ (c .before .before .before .if1 .left))
-    (else-is _ _ _ _ (ne-eqb _ _ (c .before .if3 .left))
-    (c .going .ensures))
+returns-4 c = else-is _ _ _ _ (ne-eqb _ _ (c .before .before .before .before .if1 .left))
+    (else-is _ _ _ _ (ne-eqb _ _ (c .before .before .if3 .left))
+    (rw (c .on .ensures, c .before .to .ensures)))
 
 pub found-key-spec : {M : Type 1} → statement M
-found-key-spec = tie.close (tie.spec returns returns-2 returns-3 going-requires returns-4)
+found-key-spec = tie.close (tie.spec returns returns-2 returns-3 to-requires on-requires returns-4)

@@ -8,6 +8,9 @@ use Rattle.replay.proofs.ready.Tie as tie
 limits-of-requires : tie.Need-limits-of-requires
 limits-of-requires c κs = tt
 
+idle-requires : tie.Need-idle-requires
+idle-requires c κs = tt
+
 fresh-requires : tie.Need-fresh-requires
 fresh-requires c κs = tt
 
@@ -22,9 +25,9 @@ same-length-2 c = search needs
 
 returns : tie.Need-returns
 unfolding prepared
-returns c = rw (← (c .before .before .before .before .before .before .before .before .limits-of .ensures), ← (c .before .before .before .before .before .before .before .fresh .ensures)) (c .before .before .before .before .prepare .ensures)
+returns c = rw (← (c .before .before .before .before .before .before .before .before .before .limits-of .ensures), ← (c .before .before .before .before .before .before .before .before .idle .ensures), ← (c .before .before .before .before .before .before .before .fresh .ensures)) (c .before .before .before .before .prepare .ensures)
 
 pub ready-spec : {M : Type 1} → statement M
 ready-spec =
     tie.close
-    (tie.spec limits-of-requires fresh-requires prepare-requires same-length same-length-2 returns)
+    (tie.spec limits-of-requires idle-requires fresh-requires prepare-requires same-length same-length-2 returns)

@@ -13,8 +13,8 @@ use Rattle.welmuzra.proofs.welmuzra_prepare.Tie as tie
 lacks-records-requires : tie.Need-lacks-records-requires
 lacks-records-requires c κs = tt
 
-too-few-for-requires : tie.Need-too-few-for-requires
-too-few-for-requires c κs = tt
+too-few-requires : tie.Need-too-few-requires
+too-few-requires c κs = tt
 
 refused-requires : tie.Need-refused-requires
 refused-requires c κs = tt
@@ -22,7 +22,7 @@ refused-requires c κs = tt
 returns : tie.Need-returns
 unfolding prepareWords
 returns c =
-    then-is _ _ _ _ (sym (c .before .before .before .lacks-records .ensures) ∙ c .before .before .if1 .taken) (rw (c .refused .ensures, c .before .too-few-for .ensures))
+    then-is _ _ _ _ (sym (c .before .before .before .lacks-records .ensures) ∙ c .before .before .if1 .taken) (rw (c .refused .ensures, c .before .too-few .ensures))
 
 header-of-requires : tie.Need-header-of-requires
 header-of-requires c κs = tt
@@ -56,7 +56,7 @@ welmuzra-prepare-spec =
     tie.close
     (tie.spec
     lacks-records-requires
-    too-few-for-requires
+    too-few-requires
     refused-requires
     returns
     header-of-requires

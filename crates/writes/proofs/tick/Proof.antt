@@ -3,7 +3,7 @@
 use mathlib.Core.Path.{refl}
 use borrow.Author.Tests.{lt-ltb, le-ltb}
 use Rattle.choice.proofs.Auto.{then-is, else-is}
-use Rattle.writes.specs.Carry.{tick}
+use Rattle.record.specs.Worker.{tick}
 use borrow.Author.Needs.{needs}
 use Rattle.writes.proofs.tick.Statement.{statement}
 use Rattle.writes.proofs.tick.Tie as tie

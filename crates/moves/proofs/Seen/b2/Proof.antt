@@ -22,20 +22,45 @@ returns c = then-is _ _ _ _ (rw (← c .before .before .nodes .ensures) ((lt-ltb
 parent-requires : tie.Need-parent-requires
 parent-requires c κs = tt
 
+to-make-requires : tie.Need-to-make-requires
+to-make-requires c κs = tt
+
+on-requires : tie.Need-on-requires
+on-requires c κs = tt
+
 returns-2 : tie.Need-returns-2
 unfolding b2
-returns-2 c = else-is _ _ _ _ (rw (← c .before .before .before .before .before .nodes .ensures) ((le-ltb _ _ (c .before .before .before .if1 .left))))
-    (then-is _ _ _ _ (eq-eqb _ _ (c .before .if2 .taken))
-    (rw (c .parent .ensures)))
+returns-2 c = else-is _ _ _ _ (rw (← c .before .before .before .before .before .before .before .nodes .ensures) ((le-ltb _ _ (c .before .before .before .before .before .if1 .left))))
+    (then-is _ _ _ _ (eq-eqb _ _ (c .before .before .before .if2 .taken))
+    (rw (c .on .ensures, c .before .to-make .ensures, c .before .before .parent .ensures)))
 
-going-requires : tie.Need-going-requires
-going-requires c κs = tt
+searching-from-requires : tie.Need-searching-from-requires
+searching-from-requires c κs = tt
+
+to-requires : tie.Need-to-requires
+to-requires c κs = tt
+
+on-requires-2 : tie.Need-on-requires-2
+on-requires-2 c κs = tt
 
 returns-3 : tie.Need-returns-3
 unfolding b2
-returns-3 c = else-is _ _ _ _ (rw (← c .before .before .before .before .before .nodes .ensures) ((le-ltb _ _ (c .before .before .before .if1 .left))))
-    (else-is _ _ _ _ (ne-eqb _ _ (c .before .if2 .left))
-    (c .going .ensures))
+returns-3 c = else-is _ _ _ _ (rw (← c .before .before .before .before .before .before .before .nodes .ensures) ((le-ltb _ _ (c .before .before .before .before .before .if1 .left))))
+    (else-is _ _ _ _ (ne-eqb _ _ (c .before .before .before .if2 .left))
+    (rw (c .on2 .ensures, c .before .to .ensures, c .before .before .searching-from .ensures)))
 
 pub b2-spec : {M : Type 1} → statement M
-b2-spec = tie.close (tie.spec nodes-requires cast-if1 returns parent-requires returns-2 going-requires returns-3)
+b2-spec =
+    tie.close
+    (tie.spec
+    nodes-requires
+    cast-if1
+    returns
+    parent-requires
+    to-make-requires
+    on-requires
+    returns-2
+    searching-from-requires
+    to-requires
+    on-requires-2
+    returns-3)

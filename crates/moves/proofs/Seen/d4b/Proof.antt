@@ -25,21 +25,42 @@ returns-2 c = else-is _ _ _ _ (rw (← c .before .before .before .before .before
     (then-is _ _ _ _ (eq-eqb _ _ (c .if3 .taken))
     (refl)))
 
+to-requires : tie.Need-to-requires
+to-requires c κs = tt
+
 returns-3 : tie.Need-returns-3
 unfolding d4b
-returns-3 c = else-is _ _ _ _ (rw (← c .before .before .before .before .before .bad-link .ensures) (c .before .before .before .before .if1 .left))
-    (then-is _ _ _ _ (sym (c .before .before .before .is-to .ensures) ∙ c .before .before .if2 .taken)
-    (else-is _ _ _ _ (ne-eqb _ _ (c .if3 .left))
-    (refl)))
+returns-3 c = else-is _ _ _ _ (rw (← c .before .before .before .before .before .before .bad-link .ensures) (c .before .before .before .before .before .if1 .left))
+    (then-is _ _ _ _ (sym (c .before .before .before .before .is-to .ensures) ∙ c .before .before .before .if2 .taken)
+    (else-is _ _ _ _ (ne-eqb _ _ (c .before .if3 .left))
+    (rw (c .to .ensures))))
 
-going-requires : tie.Need-going-requires
-going-requires c κs = tt
+on-errand-requires : tie.Need-on-errand-requires
+on-errand-requires c κs = tt
+
+to-requires-2 : tie.Need-to-requires-2
+to-requires-2 c κs = tt
+
+on-requires : tie.Need-on-requires
+on-requires c κs = tt
 
 returns-4 : tie.Need-returns-4
 unfolding d4b
-returns-4 c = else-is _ _ _ _ (rw (← c .before .before .before .before .bad-link .ensures) (c .before .before .before .if1 .left))
-    (else-is _ _ _ _ (sym (c .before .before .is-to .ensures) ∙ c .before .if2 .left)
-    (c .going .ensures))
+returns-4 c = else-is _ _ _ _ (rw (← c .before .before .before .before .before .before .bad-link .ensures) (c .before .before .before .before .before .if1 .left))
+    (else-is _ _ _ _ (sym (c .before .before .before .before .is-to .ensures) ∙ c .before .before .before .if2 .left)
+    (rw (c .on .ensures, c .before .to2 .ensures, c .before .before .on-errand .ensures)))
 
 pub d4b-spec : {M : Type 1} → statement M
-d4b-spec = tie.close (tie.spec bad-link-requires returns is-to-requires returns-2 returns-3 going-requires returns-4)
+d4b-spec =
+    tie.close
+    (tie.spec
+    bad-link-requires
+    returns
+    is-to-requires
+    returns-2
+    to-requires
+    returns-3
+    on-errand-requires
+    to-requires-2
+    on-requires
+    returns-4)

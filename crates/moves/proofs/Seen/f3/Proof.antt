@@ -26,14 +26,27 @@ returns-2 c = else-is _ _ _ _ (rw (← c .before .before .before .before .bad-li
     (then-is _ _ _ _ (sym (c .before .before .is-to .ensures) ∙ c .before .if2 .taken)
     (c .judged .ensures))
 
-going-requires : tie.Need-going-requires
-going-requires c κs = tt
+to-requires : tie.Need-to-requires
+to-requires c κs = tt
+
+on-requires : tie.Need-on-requires
+on-requires c κs = tt
 
 returns-3 : tie.Need-returns-3
 unfolding f3
-returns-3 c = else-is _ _ _ _ (rw (← c .before .before .before .before .bad-link .ensures) (c .before .before .before .if1 .left))
-    (else-is _ _ _ _ (sym (c .before .before .is-to .ensures) ∙ c .before .if2 .left)
-    (c .going .ensures))
+returns-3 c = else-is _ _ _ _ (rw (← c .before .before .before .before .before .bad-link .ensures) (c .before .before .before .before .if1 .left))
+    (else-is _ _ _ _ (sym (c .before .before .before .is-to .ensures) ∙ c .before .before .if2 .left)
+    (rw (c .on .ensures, c .before .to .ensures)))
 
 pub f3-spec : {M : Type 1} → statement M
-f3-spec = tie.close (tie.spec bad-link-requires returns is-to-requires judged-requires returns-2 going-requires returns-3)
+f3-spec =
+    tie.close
+    (tie.spec
+    bad-link-requires
+    returns
+    is-to-requires
+    judged-requires
+    returns-2
+    to-requires
+    on-requires
+    returns-3)

@@ -35,14 +35,28 @@ returns-3 c = else-is _ _ _ _ (rw (← c .before .before .before .before .before
     (else-is _ _ _ _ (ne-eqb _ _ (c .before .if3 .left))
     (c .comes .ensures)))
 
-going-requires : tie.Need-going-requires
-going-requires c κs = tt
+to-requires : tie.Need-to-requires
+to-requires c κs = tt
+
+on-requires : tie.Need-on-requires
+on-requires c κs = tt
 
 returns-4 : tie.Need-returns-4
 unfolding f4
-returns-4 c = else-is _ _ _ _ (rw (← c .before .before .before .before .bad-link .ensures) (c .before .before .before .if1 .left))
-    (else-is _ _ _ _ (sym (c .before .before .is-to .ensures) ∙ c .before .if2 .left)
-    (c .going .ensures))
+returns-4 c = else-is _ _ _ _ (rw (← c .before .before .before .before .before .bad-link .ensures) (c .before .before .before .before .if1 .left))
+    (else-is _ _ _ _ (sym (c .before .before .before .is-to .ensures) ∙ c .before .before .if2 .left)
+    (rw (c .on .ensures, c .before .to .ensures)))
 
 pub f4-spec : {M : Type 1} → statement M
-f4-spec = tie.close (tie.spec bad-link-requires returns is-to-requires returns-2 comes-requires returns-3 going-requires returns-4)
+f4-spec =
+    tie.close
+    (tie.spec
+    bad-link-requires
+    returns
+    is-to-requires
+    returns-2
+    comes-requires
+    returns-3
+    to-requires
+    on-requires
+    returns-4)

@@ -15,10 +15,16 @@ returns c = then-is _ _ _ _ (eq-eqb _ _ (c .if1 .taken))
 regular-key-requires : tie.Need-regular-key-requires
 regular-key-requires c κs = tt
 
+holding-requires : tie.Need-holding-requires
+holding-requires c κs = tt
+
+to-requires : tie.Need-to-requires
+to-requires c κs = tt
+
 returns-2 : tie.Need-returns-2
 unfolding i1
-returns-2 c = else-is _ _ _ _ (ne-eqb _ _ (c .before .if1 .left))
-    (rw (c .regular-key .ensures))
+returns-2 c = else-is _ _ _ _ (ne-eqb _ _ (c .before .before .before .if1 .left))
+    (rw (c .to .ensures, c .before .holding .ensures, c .before .before .regular-key .ensures))
 
 pub i1-spec : {M : Type 1} → statement M
-i1-spec = tie.close (tie.spec returns regular-key-requires returns-2)
+i1-spec = tie.close (tie.spec returns regular-key-requires holding-requires to-requires returns-2)

@@ -6,21 +6,24 @@ use Rattle.moves.specs.Moves.{i9}
 use Rattle.moves.proofs.Seen.i9.Statement.{statement}
 use Rattle.moves.proofs.Seen.i9.Tie as tie
 
-wrapping-add-u32-requires : tie.Need-wrapping-add-u32-requires
-wrapping-add-u32-requires c κs = tt
+counted-up-requires : tie.Need-counted-up-requires
+counted-up-requires c κs = tt
 
 doubles-requires : tie.Need-doubles-requires
 doubles-requires c κs = tt
 
+to-requires : tie.Need-to-requires
+to-requires c κs = tt
+
 returns : tie.Need-returns
 unfolding i9
-returns c = then-is _ _ _ _ (sym (c .before .doubles .ensures) ∙ c .if1 .taken)
-    (rw (c .before .before .wrapping-add-u32 .ensures))
+returns c = then-is _ _ _ _ (sym (c .before .before .doubles .ensures) ∙ c .before .if1 .taken)
+    (rw (c .to .ensures, c .before .before .before .counted-up .ensures))
 
 returns-2 : tie.Need-returns-2
 unfolding i9
 returns-2 c = else-is _ _ _ _ (sym (c .before .doubles .ensures) ∙ c .if1 .left)
-    (rw (c .before .before .wrapping-add-u32 .ensures))
+    (rw (c .before .before .counted-up .ensures))
 
 pub i9-spec : {M : Type 1} → statement M
-i9-spec = tie.close (tie.spec wrapping-add-u32-requires doubles-requires returns returns-2)
+i9-spec = tie.close (tie.spec counted-up-requires doubles-requires to-requires returns returns-2)

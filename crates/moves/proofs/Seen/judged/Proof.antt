@@ -7,13 +7,16 @@ use Rattle.moves.specs.Moves.{judged}
 use Rattle.moves.proofs.Seen.judged.Statement.{statement}
 use Rattle.moves.proofs.Seen.judged.Tie as tie
 
-going-requires : tie.Need-going-requires
-going-requires c κs = tt
+to-requires : tie.Need-to-requires
+to-requires c κs = tt
+
+on-requires : tie.Need-on-requires
+on-requires c κs = tt
 
 returns : tie.Need-returns
 unfolding judged
-returns c = then-is _ _ _ _ (c .before .if1 .taken)
-    (c .going .ensures)
+returns c = then-is _ _ _ _ (c .before .before .if1 .taken)
+    (rw (c .on .ensures, c .before .to .ensures))
 
 returns-2 : tie.Need-returns-2
 unfolding judged
@@ -60,7 +63,8 @@ pub judged-spec : {M : Type 1} → statement M
 judged-spec =
     tie.close
     (tie.spec
-    going-requires
+    to-requires
+    on-requires
     returns
     returns-2
     want-of-requires

@@ -29,11 +29,14 @@ returns-2 c = else-is _ _ _ _ (rw (← c .before .before .before .before .before
     (then-is _ _ _ _ (rw (← c .before .before .before .before .before .before .before .held-for .ensures, ← c .before .before .is-to .ensures) (c .before .if2 .taken))
     (c .placed .ensures ∙ rw (c .before .before .before .before .before .before .before .held-for .ensures)))
 
+to-requires : tie.Need-to-requires
+to-requires c κs = tt
+
 returns-3 : tie.Need-returns-3
 unfolding l2
-returns-3 c = else-is _ _ _ _ (rw (← c .before .before .before .before .before .before .held-for .ensures, ← c .before .before .before .bad-link .ensures) (c .before .before .if1 .left))
-    (else-is _ _ _ _ (rw (← c .before .before .before .before .before .before .held-for .ensures, ← c .before .is-to .ensures) (c .if2 .left))
-    (rw (c .before .before .before .before .before .before .held-for .ensures)))
+returns-3 c = else-is _ _ _ _ (rw (← c .before .before .before .before .before .before .before .held-for .ensures, ← c .before .before .before .before .bad-link .ensures) (c .before .before .before .if1 .left))
+    (else-is _ _ _ _ (rw (← c .before .before .before .before .before .before .before .held-for .ensures, ← c .before .before .is-to .ensures) (c .before .if2 .left))
+    (rw (c .to .ensures, c .before .before .before .before .before .before .before .held-for .ensures)))
 
 pub l2-spec : {M : Type 1} → statement M
 l2-spec =
@@ -45,4 +48,5 @@ l2-spec =
     is-to-requires
     placed-requires
     returns-2
+    to-requires
     returns-3)

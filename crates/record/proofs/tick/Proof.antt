@@ -1,0 +1,25 @@
+-- Each test that was passed says which way the definition goes.
+-- Assumes nothing.
+use mathlib.Core.Path.{refl}
+use borrow.Author.Tests.{lt-ltb, le-ltb}
+use Rattle.choice.proofs.Auto.{then-is, else-is}
+use Rattle.record.specs.Worker.{tick}
+use borrow.Author.Needs.{needs}
+use Rattle.record.proofs.tick.Statement.{statement}
+use Rattle.record.proofs.tick.Tie as tie
+
+add-result : tie.Need-add-result
+add-result c = search needs
+
+returns : tie.Need-returns
+unfolding tick
+returns c = then-is _ _ _ _ (lt-ltb _ _ (c .if1 .taken))
+    (refl)
+
+returns-2 : tie.Need-returns-2
+unfolding tick
+returns-2 c = else-is _ _ _ _ (le-ltb _ _ (c .if1 .left))
+    (refl)
+
+pub tick-spec : {M : Type 1} → statement M
+tick-spec = tie.close (tie.spec add-result returns returns-2)
