@@ -5,14 +5,14 @@ use native.Mathlib.Omega.{arith}
 use mathlib.Core.Path.{_≡_, refl, sym, ap, subst, _∙_}
 use mathlib.Core.Bool.{Bool, true, false, false≢true, _&&_}
 use mathlib.Core.List.{List}
-use lib.Dec.{ltb, eqb}
+use lib.Dec.{ltb}
 use lib.ListN.{length, set, length-set}
 use lib.Seq.{set-getD, set-set, getD-set-same}
-use borrow.Author.Tests.{le-leb, lt-ltb, ltb-false, ne-eqb}
+use borrow.Author.Tests.{le-leb, lt-ltb, ltb-false}
 use Rattle.choice.specs.Choice.{pick}
 use Rattle.choice.proofs.Auto.{pick-false, pick-true}
 use Rattle.choice.proofs.Cases.{by-bool, both}
-use Rattle.names.specs.Names.{numberOf}
+use Rattle.names.specs.Names.{goesOn}
 use Rattle.names.specs.declared.Answer.{Answer}
 use Rattle.names.specs.declared.Answer.the-variants.{Short, Damaged, NoWorker}
 use Rattle.header.specs.declared.Header.{Header}
@@ -41,7 +41,7 @@ use Rattle.register.specs.Calls.{steppedBy, stepVerdict, stepOf, askedOf}
 use Rattle.crew.specs.declared.Call.{Call}
 use Rattle.crew.specs.declared.Call.the-variants.{Start as Starts, Steps}
 use Rattle.crew.specs.declared.Ready.{Ready}
-use Rattle.crew.specs.Crew.{Left, left, refused, called, turnAt, stored, tooFew, stepAt, startAt, filled, ready, tooFewFor, prepareAt, turn, going, moreAt, stepsAt, serveAt}
+use Rattle.crew.specs.Crew.{Left, left, refused, called, turnAt, stored, tooFew, stepAt, startAt, filled, ready, tooFewFor, prepareAt, turn, moreAt, stepsAt, serveAt}
 use Rattle.crew.specs.One.{noneOf, pastOf, mostOf, callOf, serveOne, wants, Wanted, wanted, prepareOne}
 
 -- the answer to a worker that there is not, where there are fewer records than W and where there are not
@@ -130,19 +130,19 @@ pub turns-left : (turns : ℕ) (b : Bool) → ltb 0 turns && b ≡ true → 0 < 
 turns-left zero b e = absurd (false≢true e)
 turns-left (suc turns) b e = omega arith
 
-pub most-on : (w left : ℕ) (a : After) → ltb 0 left && going (a .out .answer) ≡ true → mostOf w left a ≡ mostOf w (left - 1) (stepOf (turn (a .out .header) w (a .out .worker)) (a .nodes) (a .buckets))
+pub most-on : (w left : ℕ) (a : After) → ltb 0 left && goesOn (a .out .answer) ≡ true → mostOf w left a ≡ mostOf w (left - 1) (stepOf (turn (a .out .header) w (a .out .worker)) (a .nodes) (a .buckets))
 unfolding mostOf
 most-on w zero a e = absurd (false≢true e)
 most-on w (suc left) a e =
     let one : suc left - 1 ≡ left = omega arith in
     pick-true _ _ _ (rw (lt-ltb 0 (suc left) (omega arith)) at e) ∙ rw one
 
-pub most-over : (w left : ℕ) (a : After) → ltb 0 left && going (a .out .answer) ≡ false → mostOf w left a ≡ a
+pub most-over : (w left : ℕ) (a : After) → ltb 0 left && goesOn (a .out .answer) ≡ false → mostOf w left a ≡ a
 unfolding mostOf
 most-over w zero a e = refl
 most-over w (suc left) a e = pick-false _ _ _ (rw (lt-ltb 0 (suc left) (omega arith)) at e)
 
-more-at-stop : (w more : ℕ) (l : Left) → going (l .called .answer) ≡ false → moreAt w more l ≡ l
+more-at-stop : (w more : ℕ) (l : Left) → goesOn (l .called .answer) ≡ false → moreAt w more l ≡ l
 unfolding moreAt
 more-at-stop w zero l e = refl
 more-at-stop w (suc more) l e = pick-false _ _ _ e
@@ -159,7 +159,7 @@ module _ (ws : List Worker) (w : ℕ) (within : w < length ws) where
   more-stored : (more : ℕ) (a : After) → ltb (length ws) (a .out .header .w) ≡ false → stored ws w (mostOf w more a) ≡ moreAt w more (stored ws w a)
   unfolding mostOf moreAt pick
   more-stored zero a e = refl
-  more-stored (suc more) a e = by-test (going (a .out .answer)) (more-stored more b (ap (ltb (length ws)) (step-width (turn (a .out .header) w (a .out .worker)) (a .nodes) (a .buckets)) ∙ e))
+  more-stored (suc more) a e = by-test (goesOn (a .out .answer)) (more-stored more b (ap (ltb (length ws)) (step-width (turn (a .out .header) w (a .out .worker)) (a .nodes) (a .buckets)) ∙ e))
     where
       b : After
       b = stepOf (turn (a .out .header) w (a .out .worker)) (a .nodes) (a .buckets)
@@ -172,16 +172,13 @@ module _ (ws : List Worker) (w : ℕ) (within : w < length ws) where
       by-test false ih = refl
 
 -- a worker past the table is refused at once
-far-stops : (h : Header) (ws : List Worker) (w : ℕ) (ns bs : List ℕ) → length ws ≤ w → going (stepAt h ws w ns bs .called .answer) ≡ false
+far-stops : (h : Header) (ws : List Worker) (w : ℕ) (ns bs : List ℕ) → length ws ≤ w → goesOn (stepAt h ws w ns bs .called .answer) ≡ false
 unfolding noneOf
 far-stops h ws w ns bs l =
-    ne-eqb _ 0 (λ e. refuses (pastOf h (length ws) (length ns) (length bs)) (both Refuses _ (omega arith) (both Refuses _ (omega arith) (omega arith))) (ap (λ (z : Left). numberOf (z .called .answer)) (step-past h ws w ns bs l) ∙ e))
+    sym (ap (λ (z : Left). goesOn (z .called .answer)) (step-past h ws w ns bs l)) ∙ both Stops _ refl (both Stops _ refl refl)
   where
-    Refuses : Answer → Type 0
-    Refuses a = 10 ≤ numberOf a
-
-    refuses : (a : Answer) → Refuses a → numberOf a ≡ 0 → ⊥
-    refuses a r e = omega arith
+    Stops : Answer → Type 0
+    Stops a = goesOn a ≡ false
 
 module _ (h : Header) (ws : List Worker) (w : ℕ) (ns bs : List ℕ) (more : ℕ) where
   pub steps-past : length ws ≤ w → left (refused (pastOf h (length ws) (length ns) (length bs)) h) ws ns bs ≡ stepsAt h ws w more ns bs
@@ -189,15 +186,15 @@ module _ (h : Header) (ws : List Worker) (w : ℕ) (ns bs : List ℕ) (more : �
   steps-past l = step-past h ws w ns bs l ∙ sym (more-at-stop w more (stepAt h ws w ns bs) (far-stops h ws w ns bs l))
 
   -- fewer records than W end the steps at once; else one store at the end is enough
-  few-stops : going (tooFew h) ≡ false
+  few-stops : goesOn (tooFew h) ≡ false
   unfolding tooFew
-  few-stops = both (λ (a : Answer). going a ≡ false) (headerDamaged h) refl refl
+  few-stops = both (λ (a : Answer). goesOn a ≡ false) (headerDamaged h) refl refl
 
   steps-few : ltb (length ws) (h .w) ≡ true → left (refused (tooFew h) h) ws ns bs ≡ stepsAt h ws w more ns bs
   unfolding stepsAt stepAt
   steps-few e =
       let few : stepAt h ws w ns bs ≡ left (refused (tooFew h) h) ws ns bs = pick-true _ _ _ e in
-      sym few ∙ sym (more-at-stop w more (stepAt h ws w ns bs) (ap (λ (l : Left). going (l .called .answer)) few ∙ few-stops))
+      sym few ∙ sym (more-at-stop w more (stepAt h ws w ns bs) (ap (λ (l : Left). goesOn (l .called .answer)) few ∙ few-stops))
 
   steps-enough : w < length ws → ltb (length ws) (h .w) ≡ false → stored ws w (callOf (turnAt h ws w) (Steps more) ns bs) ≡ stepsAt h ws w more ns bs
   unfolding stepsAt mostOf
@@ -239,9 +236,9 @@ unfolding pick filled
 filled-pick true n x ws = refl
 filled-pick false n x ws = refl
 
-none-for : (l : Limits) → pick (eqb (numberOf (tooFewFor l)) 0) (l .w) 0 ≡ 0
+none-for : (l : Limits) → pick (goesOn (tooFewFor l)) (l .w) 0 ≡ 0
 unfolding tooFewFor
-none-for l = both (λ (a : Answer). pick (eqb (numberOf a) 0) (l .w) 0 ≡ 0) (limitBroken (freshHeader l)) (pick-false false (l .w) 0 refl) (pick-false false (l .w) 0 refl)
+none-for l = both (λ (a : Answer). pick (goesOn a) (l .w) 0 ≡ 0) (limitBroken (freshHeader l)) (pick-false false (l .w) 0 refl) (pick-false false (l .w) 0 refl)
 
 module _ (l : Limits) (h : Header) (ws : List Worker) (ns bs : List ℕ) where
   -- what is left once the records that are wanted are filled
@@ -257,8 +254,8 @@ module _ (l : Limits) (h : Header) (ws : List Worker) (ns bs : List ℕ) where
   few-made : made few ≡ left (refused (tooFewFor l) h) ws ns bs
   few-made = ap (λ (n : ℕ). left (refused (tooFewFor l) h) (filled n idle ws) ns bs) (none-for l) ∙ ap (λ (zs : List Worker). left (refused (tooFewFor l) h) zs ns bs) (filled-none idle ws)
 
-  all-made : (k : Kept) → made (all k) ≡ left (ready (k .out)) (pick (eqb (numberOf (k .out .answer)) 0) (filled (l .w) idle ws) ws) (k .nodes) (k .buckets)
-  all-made k = ap (λ (zs : List Worker). left (ready (k .out)) zs (k .nodes) (k .buckets)) (filled-pick (eqb (numberOf (k .out .answer)) 0) (l .w) idle ws)
+  all-made : (k : Kept) → made (all k) ≡ left (ready (k .out)) (pick (goesOn (k .out .answer)) (filled (l .w) idle ws) ws) (k .nodes) (k .buckets)
+  all-made k = ap (λ (zs : List Worker). left (ready (k .out)) zs (k .nodes) (k .buckets)) (filled-pick (goesOn (k .out .answer)) (l .w) idle ws)
 
   made-pick : (t : Bool) (a b : Wanted) (x y : Left) → made a ≡ x → made b ≡ y → made (pick t a b) ≡ pick t x y
   unfolding pick
@@ -276,4 +273,4 @@ module _ (l : Limits) (h : Header) (ws : List Worker) (ns bs : List ℕ) where
       subst (λ (z : Wanted). z .out .count ≤ length ws) (sym e)
       (by-bool (λ (z : Wanted). z .out .count ≤ length ws) (ltb (length ws) (l .w))
       (λ _. omega (arith, none-for l))
-      (λ f. both (λ (n : ℕ). n ≤ length ws) (eqb (numberOf (prepared l h ns bs .out .answer)) 0) (ltb-false (length ws) (l .w) f) (omega arith)))
+      (λ f. both (λ (n : ℕ). n ≤ length ws) (goesOn (prepared l h ns bs .out .answer)) (ltb-false (length ws) (l .w) f) (omega arith)))

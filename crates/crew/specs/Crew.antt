@@ -1,11 +1,10 @@
 -- The calls over the lent table of records: the register's own call on record w, and the record stored back.
 use Prim.Native.Nat.{ℕ, zero, suc}
-use mathlib.Core.Bool.{Bool}
 use mathlib.Core.List.{List}
-use lib.Dec.{ltb, eqb}
+use lib.Dec.{ltb}
 use lib.ListN.{length, getD, set}
 use Rattle.choice.specs.Choice.{pick}
-use Rattle.names.specs.Names.{numberOf}
+use Rattle.names.specs.Names.{goesOn}
 use Rattle.names.specs.declared.Answer.{Answer}
 use Rattle.names.specs.declared.Answer.the-variants.{Limit, Short, Damaged}
 use Rattle.header.specs.declared.Header.{Header}
@@ -68,14 +67,10 @@ startAt h ws w kind key ns bs =
     pick (ltb (length ws) (h .w)) (left (refused (tooFew h) h) ws ns bs) (stored ws w (after (startOf (turnAt h ws w) kind key (length ns) (length bs)) ns bs))
 
 -- ---- several steps of one worker: a step, and up to so many more, ending after the first whose answer isn't 0
--- the answer is 0, going on
-abbrev pub going : Answer → Bool
-going a = eqb (numberOf a) 0
-
 -- up to so many more steps of worker w after what a step left
 unfoldable pub moreAt : ℕ → ℕ → Left → Left
 moreAt w zero l = l
-moreAt w (suc more) l = pick (going (l .called .answer)) (moreAt w more (stepAt (l .called .header) (l .workers) w (l .nodes) (l .buckets))) l
+moreAt w (suc more) l = pick (goesOn (l .called .answer)) (moreAt w more (stepAt (l .called .header) (l .workers) w (l .nodes) (l .buckets))) l
 
 unfoldable pub stepsAt : Header → List Worker → ℕ → ℕ → List ℕ → List ℕ → Left
 stepsAt h ws w more ns bs = moreAt w more (stepAt h ws w ns bs)
@@ -107,4 +102,4 @@ unfoldable pub prepareAt : Limits → Header → List Worker → List ℕ → Li
 prepareAt l h ws ns bs =
     let k = prepared l h ns bs in
     pick (ltb (length ws) (l .w)) (left (refused (tooFewFor l) h) ws ns bs)
-    (left (ready (k .out)) (pick (eqb (numberOf (k .out .answer)) 0) (idled (l .w) ws) ws) (k .nodes) (k .buckets))
+    (left (ready (k .out)) (pick (goesOn (k .out .answer)) (idled (l .w) ws) ws) (k .nodes) (k .buckets))

@@ -2,10 +2,10 @@
 use Prim.Native.Nat.{ℕ, zero, suc, _+_}
 use mathlib.Core.Bool.{Bool, _||_}
 use mathlib.Core.List.{List}
-use lib.Dec.{ltb, eqb}
+use lib.Dec.{ltb}
 use lib.ListN.{length}
 use Rattle.choice.specs.Choice.{pick}
-use Rattle.names.specs.Names.{numberOf}
+use Rattle.names.specs.Names.{goesOn}
 use Rattle.names.specs.declared.Answer.{Answer}
 use Rattle.names.specs.declared.Answer.the-variants.{Going, Short, Damaged, NoWorker}
 use Rattle.header.specs.declared.Header.{Header}
@@ -23,7 +23,7 @@ use Rattle.crew.specs.declared.Call.{Call}
 use Rattle.crew.specs.declared.Call.the-variants.{Start, Steps}
 use Rattle.crew.specs.declared.Served.{Served}
 use Rattle.crew.specs.declared.Ready.{Ready}
-use Rattle.crew.specs.Crew.{called, turn, going, tooFew, tooFewFor, ready}
+use Rattle.crew.specs.Crew.{called, turn, tooFew, tooFewFor, ready}
 
 -- a worker that there is not: 12, then 11 where there are too few records or words, then 13
 unfoldable pub noneOf : Header → Bool → ℕ → ℕ → Answer
@@ -43,7 +43,7 @@ outcome s = record { answer = s .called .answer; steps = s .called .steps; heade
 -- up to so many steps of worker w with its record in hand, ending after the first whose answer isn't 0
 unfoldable pub mostOf : ℕ → ℕ → After → After
 mostOf w zero a = a
-mostOf w (suc most) a = pick (going (a .out .answer)) (mostOf w most (stepOf (turn (a .out .header) w (a .out .worker)) (a .nodes) (a .buckets))) a
+mostOf w (suc most) a = pick (goesOn (a .out .answer)) (mostOf w most (stepOf (turn (a .out .header) w (a .out .worker)) (a .nodes) (a .buckets))) a
 
 -- the call with the record in hand: of steps there is one at least
 abbrev pub callOf : Turn → Call → List ℕ → List ℕ → After
@@ -56,7 +56,7 @@ serveOne t len c ns bs = pick (ltb len (t .header .w)) (after (refusedWith (tooF
 
 -- a prepared register asks for W idle records, a refused one for none
 abbrev pub wants : ℕ → Prepared → Ready
-wants w o = record { called = ready o; count = pick (eqb (numberOf (o .answer)) 0) w 0; worker = idle }
+wants w o = record { called = ready o; count = pick (goesOn (o .answer)) w 0; worker = idle }
 
 -- what preparing leaves: what it hands back and wants of the records, and the two lent tables of words
 pub record Wanted : Type 0 where

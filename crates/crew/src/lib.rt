@@ -2,9 +2,10 @@
 ghost use mathlib.Core.Path.{_≡_};
 ghost use Prim.Native.Nat.{_≤_};
 ghost use lib.ListN.{length};
+ghost use Rattle.names.specs.Names.{goesOn};
 ghost use Rattle.names.specs.declared.Answer.the-variants.{Going};
 ghost use Rattle.writes.specs.Carry.{after, handedBack};
-ghost use Rattle.crew.specs.Crew.{left, turn, refused, going, tooFew, filled, tooFewFor, serveAt, prepareAt};
+ghost use Rattle.crew.specs.Crew.{left, turn, refused, tooFew, filled, tooFewFor, serveAt, prepareAt};
 ghost use Rattle.crew.specs.One.{pastOf, apart, outcome, mostOf, serveOne, wants, wanted, prepareOne};
 use header::Header;
 use names::Answer;
@@ -93,12 +94,12 @@ fn apart(out: Outcome) -> Served
     Served { called, worker }
 }
 
-// The answer is 0, going on.
+// The operation goes on.
 fn goes_on(out: Outcome) -> bool
-    ensures { λ r. ⌜ r ≡ going (out .answer) ⌝ }
+    ensures { λ r. ⌜ r ≡ goesOn (out .answer) ⌝ }
 {
     let answer = out.answer;
-    answer.number() == 0
+    answer.goes_on()
 }
 
 // Up to so many steps with the record in hand, ending after the first whose answer isn't 0.
@@ -217,7 +218,7 @@ fn wants(w: u32, out: Prepared) -> Ready
         header,
     };
     let worker = Worker::fresh(place::IDLE, 0, 0);
-    if answer.number() == 0 {
+    if answer.goes_on() {
         return Ready {
             called,
             count: w as usize,

@@ -1,2 +1,3 @@
+pub mod Classes
 pub mod Same
 pub mod Verdicts

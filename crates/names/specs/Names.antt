@@ -1,5 +1,8 @@
--- The scope paper's names: places, errands, kinds, and the number of each answer.
-use Prim.Native.Nat.{ℕ}
+-- The scope paper's names: places, errands, kinds, and the number and the class of each answer.
+use Prim.Native.Nat.{ℕ, _≤_}
+use mathlib.Core.Bool.{Bool, true, false, not, _||_}
+use mathlib.Core.Logic.{_⊎_, _↔_}
+use mathlib.Core.Path.{_≡_}
 use Rattle.names.specs.declared.Answer.{Answer}
 use Rattle.names.specs.declared.Answer.the-variants.{Going, Yes, No, Limit, Short, Damaged, NoWorker, KeyAbove, IsBusy, IsIdle, NoKind, NoKeyNode, NoDummy}
 
@@ -101,3 +104,66 @@ numberOf IsIdle = 16
 numberOf NoKind = 17
 numberOf NoKeyNode = 18
 numberOf NoDummy = 19
+
+-- ---- the class of each answer
+-- "All the others from 10 on change no word and return header and record as they came"
+abbrev pub refuses : Answer → Bool
+refuses Going = false
+refuses Yes = false
+refuses No = false
+refuses Limit = true
+refuses Short = true
+refuses Damaged = true
+refuses NoWorker = true
+refuses KeyAbove = true
+refuses IsBusy = true
+refuses IsIdle = true
+refuses NoKind = true
+refuses NoKeyNode = false
+refuses NoDummy = false
+
+-- an operation ends with yes or no, and "18 and 19 end the operation as above"
+abbrev pub ends : Answer → Bool
+ends Going = false
+ends Yes = true
+ends No = true
+ends Limit = false
+ends Short = false
+ends Damaged = false
+ends NoWorker = false
+ends KeyAbove = false
+ends IsBusy = false
+ends IsIdle = false
+ends NoKind = false
+ends NoKeyNode = true
+ends NoDummy = true
+
+-- "going on; started, stepped or prepared"
+abbrev pub goesOn : Answer → Bool
+goesOn a = not (refuses a || ends a)
+
+-- an answer with a row of its own, said exactly when: each that refuses, and 18 and 19, which end an operation for want of a node
+abbrev pub hasRow : Answer → Bool
+hasRow Going = false
+hasRow Yes = false
+hasRow No = false
+hasRow Limit = true
+hasRow Short = true
+hasRow Damaged = true
+hasRow NoWorker = true
+hasRow KeyAbove = true
+hasRow IsBusy = true
+hasRow IsIdle = true
+hasRow NoKind = true
+hasRow NoKeyNode = true
+hasRow NoDummy = true
+
+-- the classes by the paper's numbers
+abbrev pub ClassesByNumber : Type 0
+ClassesByNumber =
+    (a : Answer) →
+    let n = numberOf a in
+    ((refuses a ≡ true) ↔ ((10 ≤ n) × (n ≤ 17)))
+    × ((ends a ≡ true) ↔ ((n ≡ 1) ⊎ (n ≡ 2) ⊎ (n ≡ 18) ⊎ (n ≡ 19)))
+    × ((goesOn a ≡ true) ↔ (n ≡ 0))
+    × ((hasRow a ≡ true) ↔ (10 ≤ n))

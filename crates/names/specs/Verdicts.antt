@@ -6,5 +6,5 @@ use Rattle.names.specs.declared.Verdict.{Verdict}
 use Rattle.names.specs.declared.Verdict.the-variants.{Refused}
 
 -- a row of refusals
-abbrev pub refuses : Answer → Bool → Row Verdict
-refuses a t = record { test = t; says = Refused a }
+abbrev pub refusedIf : Answer → Bool → Row Verdict
+refusedIf a t = record { test = t; says = Refused a }

@@ -1,6 +1,6 @@
 // The scope paper's names: places, errands, kinds of operation, and what a call returns.
 ghost use mathlib.Core.Path.{_≡_};
-ghost use Rattle.names.specs.Names.{numberOf};
+ghost use Rattle.names.specs.Names.{numberOf, refuses, ends, goesOn};
 
 pub mod errand;
 pub mod kind;
@@ -55,5 +55,54 @@ impl Answer {
             Answer::NoKeyNode => 18,
             Answer::NoDummy => 19,
         }
+    }
+
+    // The call is refused: it changes no word, and hands header and record back as they came.
+    pub fn refuses(self) -> bool
+        ensures { λ r. ⌜ r ≡ refuses self ⌝ }
+    {
+        match self {
+            Answer::Going => false,
+            Answer::Yes => false,
+            Answer::No => false,
+            Answer::Limit => true,
+            Answer::Short => true,
+            Answer::Damaged => true,
+            Answer::NoWorker => true,
+            Answer::KeyAbove => true,
+            Answer::IsBusy => true,
+            Answer::IsIdle => true,
+            Answer::NoKind => true,
+            Answer::NoKeyNode => false,
+            Answer::NoDummy => false,
+        }
+    }
+
+    // The operation has ended.
+    pub fn ends(self) -> bool
+        ensures { λ r. ⌜ r ≡ ends self ⌝ }
+    {
+        match self {
+            Answer::Going => false,
+            Answer::Yes => true,
+            Answer::No => true,
+            Answer::Limit => false,
+            Answer::Short => false,
+            Answer::Damaged => false,
+            Answer::NoWorker => false,
+            Answer::KeyAbove => false,
+            Answer::IsBusy => false,
+            Answer::IsIdle => false,
+            Answer::NoKind => false,
+            Answer::NoKeyNode => true,
+            Answer::NoDummy => true,
+        }
+    }
+
+    // Started, stepped or prepared, and nothing ended.
+    pub fn goes_on(self) -> bool
+        ensures { λ r. ⌜ r ≡ goesOn self ⌝ }
+    {
+        !(self.refuses() | self.ends())
     }
 }

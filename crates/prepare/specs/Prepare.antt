@@ -8,7 +8,7 @@ use Rattle.scans.specs.Scans.{cleared}
 use Rattle.names.specs.declared.Answer.the-variants.{Going, Limit, Short}
 use Rattle.names.specs.declared.Verdict.{Verdict}
 use Rattle.names.specs.declared.Verdict.the-variants.{Pass, Refused}
-use Rattle.names.specs.Verdicts.{refuses}
+use Rattle.names.specs.Verdicts.{refusedIf}
 use Rattle.header.specs.declared.Header.{Header}
 use Rattle.header.specs.Header.{nodesOf, limitBroken, isShort}
 use Rattle.prepare.specs.declared.Limits.{Limits}
@@ -22,8 +22,8 @@ freshHeader l = record { m = l .m; k = l .k; w = l .w; l = l .l; size = 2; count
 unfoldable pub prepareVerdict : Limits → ℕ → ℕ → Verdict
 prepareVerdict l nodes buckets =
     firstOf
-    (refuses Limit (limitBroken (freshHeader l))
-    ∷ refuses Short (isShort (freshHeader l) nodes buckets)
+    (refusedIf Limit (limitBroken (freshHeader l))
+    ∷ refusedIf Short (isShort (freshHeader l) nodes buckets)
     ∷ [])
     Pass
 

@@ -3,7 +3,7 @@
 use Prim.Native.Nat.{ℕ, zero, suc, _+_, _*_, _≤_, _<_}
 use mathlib.Core.Bool.{Bool, true, false, true≢false, _||_}
 use mathlib.Core.List.{List}
-use mathlib.Core.Path.{_≡_, refl, ap, _∙_}
+use mathlib.Core.Path.{_≡_, refl, sym, ap, _∙_}
 use native.Mathlib.Decide.{ℕ-discrete}
 use native.Mathlib.Omega.{arith}
 use borrow.Author.Tests.{ltb-false}
@@ -15,7 +15,7 @@ use Rattle.words.specs.Words.{STANDING, TAKEN, word, put, bucket, store}
 use Rattle.words.proofs.Laws.{put-at, put-same, put-node, put-word, put-length, store-same, store-other, store-length}
 use Rattle.scans.specs.Scans.{cleared}
 use Rattle.scans.proofs.Laws.{cleared-length, cleared-below, cleared-beyond}
-use Rattle.names.specs.Names.{numberOf}
+use Rattle.names.specs.Names.{refuses}
 use Rattle.names.specs.declared.Answer.{Answer}
 use Rattle.names.specs.declared.Answer.the-variants.{Going, Limit, Short}
 use Rattle.header.specs.declared.Header.{Header}
@@ -28,9 +28,9 @@ use Rattle.prepare.specs.Prepare.{freshHeader, prepareVerdict, preparedBy, prep
 use Rattle.header.specs.Header.{isShort}
 use Rattle.promises.specs.Fresh.{Fresh, PrepareFresh}
 
--- a refusal of preparing is no 0
-refusing : {X : Type 0} (a : Answer) → 10 ≤ numberOf a → a ≡ Going → X
-refusing a h e = absurd (omega (arith, h, ap numberOf e))
+-- a refusal is not going on
+refusing : {X : Type 0} (a : Answer) → refuses a ≡ true → a ≡ Going → X
+refusing a r e = absurd (true≢false (sym r ∙ ap refuses e))
 
 or-false : (a b : Bool) → (a || b) ≡ false → (a ≡ false) × (b ≡ false)
 or-false true b e = absurd (true≢false e)
@@ -100,8 +100,8 @@ module _ (l : Limits) (h : Header) (ns bs : List ℕ) (r : Room l ns bs) where
 pub prepare-fresh : PrepareFresh
 unfolding prepared prepareVerdict
 prepare-fresh l h ns bs =
-    by-bool P _ (λ _. refusing Limit (omega arith))
-    (λ fine. by-bool P _ (λ _. refusing Short (omega arith)) (λ long _. fresh l h ns bs (room l ns bs fine long)))
+    by-bool P _ (λ _. refusing Limit refl)
+    (λ fine. by-bool P _ (λ _. refusing Short refl) (λ long _. fresh l h ns bs (room l ns bs fine long)))
   where
     P : Verdict → Type 0
     P v = preparedBy l h ns bs v .out .answer ≡ Going → Fresh l ns bs (preparedBy l h ns bs v)

@@ -1,10 +1,10 @@
 -- The tests of a call stand in the order of its claims and each tells its own, so the first that holds gives the answer; of a step that passes them the place decides.
 -- Assumes nothing.
-use Prim.Native.Nat.{ℕ, _+_, _≤_, _<_}
-use mathlib.Core.Bool.{Bool, true, false, _||_}
+use Prim.Native.Nat.{ℕ, _+_, _≤_}
+use mathlib.Core.Bool.{Bool, true, false, true≢false, _||_}
 use mathlib.Core.List.{List, [], _∷_}
 use mathlib.Core.Logic.{inl, inr, ⊎-elim}
-use mathlib.Core.Path.{_≡_, refl, sym, ap}
+use mathlib.Core.Path.{_≡_, refl, sym, ap, _∙_}
 use native.Mathlib.Decide.{ℕ-discrete}
 use native.Mathlib.Omega.{arith}
 use borrow.Author.Tests.{eqb-true, eqb-false, eq-eqb, ne-eqb}
@@ -17,7 +17,7 @@ use Rattle.choice.proofs.Telling.{tells-as, tells-eq, tells-lt, tells-le, tells
 use Rattle.words.specs.Words.{SPLIT-KEY, word}
 use Rattle.scans.specs.Scans.{lowest}
 use Rattle.scans.proofs.Laws.{lowest-free, lowest-none}
-use Rattle.names.specs.Names.{IDLE, I1, SZ, TB, B2, B4, F1, F2, F3, F4, L2, B8, I8, I9, I10, D4A, D4B, DUMMY, INSERT, FIND, DELETE, KEY-LIMIT, numberOf}
+use Rattle.names.specs.Names.{IDLE, I1, SZ, TB, B2, B4, F1, F2, F3, F4, L2, B8, I8, I9, I10, D4A, D4B, DUMMY, INSERT, FIND, DELETE, KEY-LIMIT, hasRow}
 use Rattle.names.specs.declared.Answer.{Answer}
 use Rattle.names.specs.declared.Answer.the-variants.{Going as GoingOn, Damaged as IsDamaged, NoKeyNode, NoDummy}
 use Rattle.header.specs.declared.Header.{Header}
@@ -43,9 +43,9 @@ use Rattle.promises.specs.Access.{placeOf}
 use Rattle.promises.specs.Refusals.{TooShort, UnknownKind, NoneFree, NoKeyFree, NoDummyFree, Places, nowhere, at, AtPlace, placeClaims, prepareClaims, startClaims, stepClaims, PrepareExactly, StartExactly, StepExactly}
 use Rattle.promises.proofs.WordsRead.{Fine, going, ended, Plain, broken, sound, unclaimed, Known, tb-plain, b2-plain, f1-plain, f2-plain, f3-plain, f4-plain, l2-plain, b8-plain, d4a-plain, d4b-plain, sz-fine, i8-fine, i9-fine, i10-fine, d6-fine}
 
--- an answer below 10 refuses nothing
+-- an answer that no row claims
 abbrev pub Allowed : Answer → Type 0
-Allowed a = numberOf a < 10
+Allowed a = hasRow a ≡ false
 
 -- 11
 too-short : (h : Header) (nodes buckets : ℕ) → Tells (isShort h nodes buckets) (TooShort h nodes buckets)
@@ -77,13 +77,13 @@ unfolding prepared prepareVerdict
 prepare-gives l h ns bs =
     gives-row answer (limit-broken (freshHeader l)) refl
     (λ _. gives-row answer (too-short (freshHeader l) (length ns) (length bs)) refl
-    (λ _. fine (omega arith)))
+    (λ _. fine refl))
   where
     answer : Verdict → Answer
     answer v = preparedBy l h ns bs v .out .answer
 
 pub prepare-exactly : PrepareExactly
-prepare-exactly l h ns bs a r = refused-exactly a (prepare-gives l h ns bs) (λ f. omega arith)
+prepare-exactly l h ns bs a r = refused-exactly a (prepare-gives l h ns bs) (λ f. true≢false (sym r ∙ f))
 
 pub start-gives :
     (t : Turn) (kind key nodes buckets : ℕ)
@@ -97,13 +97,13 @@ start-gives t kind key nodes buckets =
     (λ _. gives-row answer (tells-lt KEY-LIMIT key) refl
     (λ _. gives-row answer (worker-damaged (t .header) (t .number) (t .worker)) refl
     (λ _. gives-row answer (tells-not (tells-eq (placeOf t) IDLE)) refl
-    (λ _. fine (omega arith))))))))
+    (λ _. fine refl)))))))
   where
     answer : Verdict → Answer
     answer v = startedBy t kind key v .answer
 
 pub start-exactly : StartExactly
-start-exactly t kind key nodes buckets a r = refused-exactly a (start-gives t kind key nodes buckets) (λ f. omega arith)
+start-exactly t kind key nodes buckets a r = refused-exactly a (start-gives t kind key nodes buckets) (λ f. true≢false (sym r ∙ f))
 
 -- ---- a step that passes its table
 -- the claim that stands at the place, and none where the place is not listed
@@ -151,7 +151,7 @@ carried-answer t ns bs (Going x e) = refl
 carried-answer t ns bs (Ended a e) = refl
 
 allowed : {m : Move} → Fine m → Allowed (answerOf m)
-allowed going = omega arith
+allowed going = refl
 allowed (ended l) = l
 
 -- 18 and 19 at place p
@@ -207,7 +207,7 @@ module _ (t : Turn) (ns bs : List ℕ) (known : Known (t .worker)) where
         given =
             later (claim-of I1 (placeClaims t ns bs))
             (gives-row answerOf none refl
-            (λ _. later (λ (k : NoDummyAt t ns I1). omega arith) (fine (omega arith))));
+            (λ _. later (λ (k : NoDummyAt t ns I1). omega arith) (fine refl)));
       }
 
   -- B4: 12 or 19 where no dummy node is free
@@ -231,7 +231,7 @@ module _ (t : Turn) (ns bs : List ℕ) (known : Known (t .worker)) where
             later (λ c. fails none refl (claim-of B4 (placeClaims t ns bs) c .0))
             (later (λ (k : NoKeyAt t ns B4). omega arith)
             (later (λ (k : NoDummyAt t ns B4). fails none refl (k .1))
-            (fine (omega arith))));
+            (fine refl)));
       }
 
   takes-dummy : Told t ns bs B4 (b4 (seen B4))
@@ -287,4 +287,4 @@ step-gives t ns bs =
     answer v = steppedBy t ns bs v .out .answer
 
 pub step-exactly : StepExactly
-step-exactly t ns bs a r = refused-exactly a (step-gives t ns bs) (λ f. omega arith)
+step-exactly t ns bs a r = refused-exactly a (step-gives t ns bs) (λ f. true≢false (sym r ∙ f))

@@ -1,12 +1,11 @@
--- A place decides by a few tests, and at each end of them stands an effect on that place's own words and no answer from 10 to 17.
+-- A place decides by a few tests, and at each end of them stands an effect on that place's own words and no answer that refuses.
 -- Assumes nothing.
 use Prim.Native.Nat.{ℕ}
-use mathlib.Core.Bool.{_||_}
-use mathlib.Core.Path.{_≡_}
-use native.Mathlib.Omega.{arith}
+use mathlib.Core.Bool.{false, _||_}
+use mathlib.Core.Path.{_≡_, refl}
 use lib.Dec.{eqb}
 use Rattle.choice.proofs.Cases.{both, by-eq}
-use Rattle.names.specs.Names.{I1, SZ, TB, B2, B4, F1, F2, F3, F4, L2, B8, I8, I9, I10, D4A, D4B, DUMMY, EXTRA, INSERT}
+use Rattle.names.specs.Names.{I1, SZ, TB, B2, B4, F1, F2, F3, F4, L2, B8, I8, I9, I10, D4A, D4B, DUMMY, EXTRA, INSERT, refuses}
 use Rattle.names.specs.declared.Answer.{Answer}
 use Rattle.record.specs.declared.Worker.{Worker}
 use Rattle.moves.specs.declared.Seen.{Seen}
@@ -17,14 +16,13 @@ use Rattle.moves.specs.Moves.{notFound, foundKey, found, comes, f1, f2, judged,
 use Rattle.register.specs.declared.Turn.{Turn}
 use Rattle.promises.specs.Access as A
 use Rattle.promises.specs.Access.{Writes, placeOf}
-use Rattle.promises.specs.Unchanged.{Refusal}
 use Rattle.promises.proofs.Stores.{effectOf, stores, All}
 
--- an ended answer is no refusal from 10 to 17
+-- an ended answer is no refusal
 abbrev pub Final : Move → Type 0
 Final Damaged = Unit {0}
 Final (Going x e) = Unit {0}
-Final (Ended a e) = Refusal a → ⊥
+Final (Ended a e) = refuses a ≡ false
 
 -- the decision m, at this turn and with this word read, is as its place allows
 pub record Shape (t : Turn) (word : ℕ) (m : Move) : Type 0 where
@@ -47,7 +45,7 @@ module _ (t : Turn) (word split : ℕ) where
   damaged : Ok Damaged
   damaged = record { writes = tt; final = tt }
 
-  ended : (a : Answer) (e : Effect) → Fits e → (Refusal a → ⊥) → Ok (Ended a e)
+  ended : (a : Answer) (e : Effect) → Fits e → refuses a ≡ false → Ok (Ended a e)
   ended a e w f = record { writes = w; final = f }
 
   not-found : (x : Worker) (e : Effect) → Fits e → Ok (notFound x e)
@@ -55,7 +53,7 @@ module _ (t : Turn) (word split : ℕ) where
   not-found x e w =
       both Ok (eqb (x .errand) EXTRA) (going _ e w)
       (both Ok (eqb (x .errand) DUMMY || eqb (x .kind) INSERT) (going _ e w)
-      (ended _ e w (λ r. omega arith)))
+      (ended _ e w refl))
 
   arrives : (x : Worker) (prev cur : ℕ) (e : Effect) → Fits e → Ok (comes x prev cur e)
   unfolding comes
@@ -66,8 +64,8 @@ module _ (t : Turn) (word split : ℕ) where
   is-found p =
       both Ok _ (going _ _ tt)
       (both Ok _
-      (both Ok _ (both Ok _ damaged (ended _ _ tt (λ r. omega arith)))
-      (both Ok _ (ended _ _ tt (λ r. omega arith)) (going _ _ tt)))
+      (both Ok _ (both Ok _ damaged (ended _ _ tt refl))
+      (both Ok _ (ended _ _ tt refl) (going _ _ tt)))
       (both Ok _ damaged (going _ _ (A.f3 p, tt))))
 
   is-judged : placeOf t ≡ F3 → Ok (judged s)
@@ -83,7 +81,7 @@ module _ (t : Turn) (word split : ℕ) where
   unfolding decided decidedAt f1 f2 f3 f4 placed l2 tb b2 b4 b8 i1 sz i8 i9 i10 d4a d4b d6
   effect-at =
       by-eq Ok (placeOf t) I1
-      (λ p. both Ok _ (ended _ _ tt (λ r. omega arith)) (going _ _ (A.i1-key p, (A.i1-taken p, tt))))
+      (λ p. both Ok _ (ended _ _ tt refl) (going _ _ (A.i1-key p, (A.i1-taken p, tt))))
       (λ _. by-eq Ok (placeOf t) SZ
       (λ _. going _ _ tt)
       (λ _. by-eq Ok (placeOf t) TB
@@ -91,7 +89,7 @@ module _ (t : Turn) (word split : ℕ) where
       (λ _. by-eq Ok (placeOf t) B2
       (λ _. both Ok _ damaged (both Ok _ (going _ _ tt) (going _ _ tt)))
       (λ _. by-eq Ok (placeOf t) B4
-      (λ p. both Ok _ (both Ok _ damaged (ended _ _ tt (λ r. omega arith))) (going _ _ (A.b4-key p, (A.b4-taken p, tt))))
+      (λ p. both Ok _ (both Ok _ damaged (ended _ _ tt refl)) (going _ _ (A.b4-key p, (A.b4-taken p, tt))))
       (λ _. by-eq Ok (placeOf t) F1
       (λ _. both Ok _ damaged (arrives _ _ _ _ tt))
       (λ _. by-eq Ok (placeOf t) F2
@@ -107,11 +105,11 @@ module _ (t : Turn) (word split : ℕ) where
       (λ _. by-eq Ok (placeOf t) I8
       (λ _. going _ _ tt)
       (λ _. by-eq Ok (placeOf t) I9
-      (λ _. both Ok _ (going _ _ tt) (ended _ _ tt (λ r. omega arith)))
+      (λ _. both Ok _ (going _ _ tt) (ended _ _ tt refl))
       (λ _. by-eq Ok (placeOf t) I10
-      (λ _. both Ok _ (ended _ _ tt (λ r. omega arith)) (ended _ _ tt (λ r. omega arith)))
+      (λ _. both Ok _ (ended _ _ tt refl) (ended _ _ tt refl))
       (λ _. by-eq Ok (placeOf t) D4A
       (λ p. both Ok _ damaged (both Ok _ (going _ _ (A.d4a p, tt)) (going _ _ tt)))
       (λ _. by-eq Ok (placeOf t) D4B
       (λ p. both Ok _ damaged (both Ok _ (both Ok _ damaged (going _ _ (A.d4b-link p, (A.d4b-standing p, tt)))) (going _ _ tt)))
-      (λ _. ended _ _ tt (λ r. omega arith)))))))))))))))))
+      (λ _. ended _ _ tt refl))))))))))))))))

@@ -1,12 +1,10 @@
 -- Where the records are fewer than W the call asks its first row and then answers 11; where they are not, it is the register's own call.
 -- Assumes nothing.
 use Prim.Native.Nat.{ℕ}
-use mathlib.Core.Bool.{Bool, true, false}
+use mathlib.Core.Bool.{Bool, true, false, true≢false}
 use mathlib.Core.List.{List}
 use mathlib.Core.Logic.{_⊎_, inl, inr, ⊎-elim}
-use mathlib.Core.Path.{_≡_, refl, ap, _∙_}
-use native.Mathlib.Omega.{arith}
-use borrow.Author.Tests.{ne-eqb}
+use mathlib.Core.Path.{_≡_, refl, sym, ap, _∙_}
 use lib.Dec.{ltb}
 use lib.ListN.{length, set}
 use lib.Seq.{set-getD}
@@ -16,8 +14,8 @@ use Rattle.choice.proofs.Auto.{pick-false}
 use Rattle.choice.proofs.Cases.{by-lt}
 use Rattle.choice.proofs.Exactly.{Tells, fails, Gives, here, later, refused-exactly, gives-row}
 use Rattle.choice.proofs.Telling.{tells-lt}
-use Rattle.names.specs.Names.{numberOf}
 use Rattle.names.specs.declared.Answer.{Answer}
+use Rattle.names.proofs.Classes.{refused-stops}
 use Rattle.header.specs.declared.Header.{Header}
 use Rattle.header.proofs.Rows.{limit-broken, header-damaged}
 use Rattle.record.specs.declared.Worker.{Worker}
@@ -48,17 +46,17 @@ also answer {more = false} tells few e (later n (later k g)) = later n (later (�
 pub prepare-at-exactly : PrepareAtExactly
 unfolding prepareAt tooFewFor
 prepare-at-exactly l h ws ns bs a r =
-    refused-exactly a (also answerOf (limit-broken (freshHeader l)) (tells-lt _ _) refl (prepare-gives l h ns bs)) (λ f. omega arith)
+    refused-exactly a (also answerOf (limit-broken (freshHeader l)) (tells-lt _ _) refl (prepare-gives l h ns bs)) (λ f. true≢false (sym r ∙ f))
 
 pub start-at-exactly : StartAtExactly
 unfolding startAt tooFew
 start-at-exactly h ws w kind key ns bs a r =
-    refused-exactly a (also answerOf (header-damaged h) (tells-lt _ _) refl (start-gives (turnAt h ws w) kind key (length ns) (length bs))) (λ f. omega arith)
+    refused-exactly a (also answerOf (header-damaged h) (tells-lt _ _) refl (start-gives (turnAt h ws w) kind key (length ns) (length bs))) (λ f. true≢false (sym r ∙ f))
 
 pub step-at-exactly : StepAtExactly
 unfolding stepAt tooFew
 step-at-exactly h ws w ns bs a r =
-    refused-exactly a (also answerOf (header-damaged h) (tells-lt _ _) refl (step-gives (turnAt h ws w) ns bs)) (λ f. omega arith)
+    refused-exactly a (also answerOf (header-damaged h) (tells-lt _ _) refl (step-gives (turnAt h ws w) ns bs)) (λ f. true≢false (sym r ∙ f))
 
 -- ---- a refusal changes nothing
 module _ (h : Header) (ws : List Worker) (ns bs : List ℕ) where
@@ -90,7 +88,7 @@ prepare-at-unchanged l h ws ns bs =
     record {
       header = u .header;
       steps = refl;
-      workers = pick-false _ _ _ (ne-eqb (numberOf (prepared l h ns bs .out .answer)) 0 (λ e. omega arith));
+      workers = pick-false _ _ _ (refused-stops (prepared l h ns bs .out .answer) r);
       nodes = u .nodes;
       buckets = u .buckets;
     })

@@ -1,9 +1,9 @@
 -- A refusal comes from the table of refusals or from a damaged word, and there the call hands back what it was handed.
 -- Assumes nothing.
 use Prim.Native.Nat.{ℕ}
+use mathlib.Core.Bool.{true≢false, false≢true}
 use mathlib.Core.List.{List}
-use mathlib.Core.Path.{refl}
-use native.Mathlib.Omega.{arith}
+use mathlib.Core.Path.{refl, sym, _∙_}
 use lib.ListN.{length}
 use Rattle.header.specs.declared.Header.{Header}
 use Rattle.acts.specs.declared.Move.{Move}
@@ -24,8 +24,8 @@ use Rattle.promises.proofs.Shape.{Final, effect-at}
 carried-unchanged :
     (t : Turn) (ns bs : List ℕ) (m : Move) → Final m → Refusal (carried t m ns bs .out .answer) → Untouched t ns bs (carried t m ns bs)
 carried-unchanged t ns bs Damaged f r = record { nodes = refl; buckets = refl; back = record { header = refl; worker = refl; steps = refl } }
-carried-unchanged t ns bs (Going x e) f r = absurd (omega arith)
-carried-unchanged t ns bs (Ended a e) f r = absurd (f r)
+carried-unchanged t ns bs (Going x e) f r = absurd (false≢true r)
+carried-unchanged t ns bs (Ended a e) f r = absurd (true≢false (sym r ∙ f))
 
 pub step-unchanged : StepUnchanged
 step-unchanged t ns bs =
@@ -35,7 +35,7 @@ step-unchanged t ns bs =
 
 started-unchanged : (t : Turn) (kind key : ℕ) (v : Verdict) → Refusal (startedBy t kind key v .answer) → HandedBack t (startedBy t kind key v)
 started-unchanged t kind key (Refused a) r = record { header = refl; worker = refl; steps = refl }
-started-unchanged t kind key Pass r = absurd (omega arith)
+started-unchanged t kind key Pass r = absurd (false≢true r)
 
 pub start-unchanged : StartUnchanged
 unfolding startOf
@@ -45,7 +45,7 @@ prepared-unchanged :
     (l : Limits) (h : Header) (ns bs : List ℕ) (v : Verdict) → Refusal (preparedBy l h ns bs v .out .answer)
     → AsBefore h ns bs (preparedBy l h ns bs v)
 prepared-unchanged l h ns bs (Refused a) r = record { nodes = refl; buckets = refl; header = refl }
-prepared-unchanged l h ns bs Pass r = absurd (omega arith)
+prepared-unchanged l h ns bs Pass r = absurd (false≢true r)
 
 pub prepare-unchanged : PrepareUnchanged
 unfolding prepared

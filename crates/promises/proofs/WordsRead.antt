@@ -1,6 +1,6 @@
 -- Each place decides by a chain of choices whose tests tell the claims about the words read, so a decision is damaged exactly where one of them holds.
 -- Assumes nothing.
-use Prim.Native.Nat.{ℕ, _<_}
+use Prim.Native.Nat.{ℕ}
 use mathlib.Core.Bool.{Bool, true, false, true≢false, or-assoc, _||_}
 use mathlib.Core.Logic.{_⊎_, inl, inr, ⊎-elim}
 use mathlib.Core.Path.{_≡_, refl}
@@ -11,7 +11,7 @@ use Rattle.choice.proofs.Cases.{both}
 use Rattle.choice.proofs.Exactly.{Tells, fails}
 use Rattle.choice.proofs.Telling.{tells-eq, tells-lt, tells-or, tells-and, tells-not, Clears, clears-eq, clears-lt, clears-flag}
 use Rattle.words.specs.Words.{isTo}
-use Rattle.names.specs.Names.{KEY, DUMMY, EXTRA, INSERT, numberOf}
+use Rattle.names.specs.Names.{KEY, DUMMY, EXTRA, INSERT, hasRow}
 use Rattle.names.specs.declared.Answer.{Answer}
 use Rattle.names.specs.declared.Answer.the-variants.{Yes}
 use Rattle.header.specs.declared.Header.{Header}
@@ -23,10 +23,10 @@ use Rattle.acts.specs.declared.Move.the-variants.{Damaged, Going, Ended}
 use Rattle.moves.specs.Moves.{badLink, wantOf, heldFor, notFound, foundKey, found, comes, f1, f2, judged, f3, f4, placed, l2, tb, b2, b8, sz, i8, i9, i10, d4a, d4b, d6}
 use Rattle.promises.specs.Refusals.{BucketAbove, LinkAbove, LinkDamaged, LinksTo, SwapDamaged, FoundDamaged, CurDamaged, SearchDamaged, PlaceDamaged}
 
--- a decision that goes on, or ends with an answer below 10
+-- a decision that goes on, or ends with an answer that no row claims
 pub data Fine : Move → Type 0 where
   going : {x : Worker} {e : Effect} → Fine (Going x e)
-  ended : {a : Answer} {e : Effect} → numberOf a < 10 → Fine (Ended a e)
+  ended : {a : Answer} {e : Effect} → hasRow a ≡ false → Fine (Ended a e)
 
 -- the decision is damaged exactly where the claim holds, and fine elsewhere
 pub data Plain (claim : Type 0) (m : Move) : Type 0 where
@@ -76,7 +76,7 @@ each-way {t = false} a p (sound n f) = sound (⊎-elim (λ q. fails a refl (q .0
 -- ---- the ends of a search
 not-found : (x : Worker) (e : Effect) → Fine (notFound x e)
 unfolding notFound
-not-found x e = both Fine _ going (both Fine _ going (ended (omega arith)))
+not-found x e = both Fine _ going (both Fine _ going (ended refl))
 
 arrives : (x : Worker) (prev cur : ℕ) (e : Effect) → Fine (comes x prev cur e)
 unfolding comes
@@ -94,7 +94,7 @@ is-found x known =
     (⊎-elim (λ d. (λ e. omega arith, inr (λ e. omega arith, d .1))) (λ k. (λ e. omega arith, inl (k .0, (k .1, k .2)))))
     (else-only (clears-eq (x .errand) EXTRA) going
     (each-way (tells-eq (x .errand) KEY)
-    (then-only (tells-eq (x .kind) INSERT) (stop (tells-eq (x .held) 0) (ended (omega arith))) (both Fine _ (ended (omega arith)) going))
+    (then-only (tells-eq (x .kind) INSERT) (stop (tells-eq (x .held) 0) (ended refl)) (both Fine _ (ended refl) going))
     (stop (tells-eq (x .dummy) 0) going)))
 
 -- ---- the places, with `read` for the word that is read and `key` for cur's split key
@@ -179,12 +179,12 @@ module _ (h : Header) (x : Worker) (read key : ℕ) where
 
   pub i9-fine : Fine (i9 s)
   unfolding i9
-  i9-fine = both Fine _ going (ended (omega arith))
+  i9-fine = both Fine _ going (ended refl)
 
   pub i10-fine : Fine (i10 s)
   unfolding i10
-  i10-fine = both Fine _ (ended (omega arith)) (ended (omega arith))
+  i10-fine = both Fine _ (ended refl) (ended refl)
 
   pub d6-fine : Fine (d6 s)
   unfolding d6
-  d6-fine = ended {a = Yes} (omega arith)
+  d6-fine = ended {a = Yes} refl

@@ -1,6 +1,6 @@
 -- When each call is refused: the scope paper's numbers from 10 on, in the order in which they are checked, and each exactly when.
 use Prim.Native.Nat.{ℕ, _+_, _*_, _≤_, _<_}
-use mathlib.Core.Bool.{false}
+use mathlib.Core.Bool.{true, false}
 use mathlib.Core.List.{List, [], _∷_}
 use mathlib.Core.Logic.{_⊎_, _↔_}
 use mathlib.Core.Path.{_≡_}
@@ -8,7 +8,7 @@ use lib.ListN.{length}
 use Rattle.choice.specs.Table.{Claims, done, row, RefusedBy}
 use Rattle.tree.specs.Tree.{parentOf}
 use Rattle.words.specs.Words.{SPLIT-KEY, LINK, STANDING, word, bucket}
-use Rattle.names.specs.Names.{IDLE, I1, TB, B2, B4, F1, F2, F3, F4, L2, B8, D4A, D4B, KEY, DUMMY, INSERT, FIND, DELETE, numberOf}
+use Rattle.names.specs.Names.{IDLE, I1, TB, B2, B4, F1, F2, F3, F4, L2, B8, D4A, D4B, KEY, DUMMY, INSERT, FIND, DELETE, hasRow}
 use Rattle.names.specs.declared.Answer.{Answer}
 use Rattle.names.specs.declared.Answer.the-variants.{Limit, Short, Damaged, NoWorker, KeyAbove as AboveLimit, IsBusy, IsIdle, NoKind, NoKeyNode, NoDummy}
 use Rattle.header.specs.declared.Header.{Header}
@@ -169,15 +169,15 @@ stepClaims t ns bs short =
 -- ---- each refusal is given exactly when its row holds and no earlier one does
 abbrev pub PrepareExactly : Type 0
 PrepareExactly =
-    (l : Limits) (h : Header) (ns bs : List ℕ) (a : Answer) → 10 ≤ numberOf a
+    (l : Limits) (h : Header) (ns bs : List ℕ) (a : Answer) → hasRow a ≡ true
     → (prepared l h ns bs .out .answer ≡ a) ↔ RefusedBy (prepareClaims l (TooShort (freshHeader l) (length ns) (length bs))) a
 
 abbrev pub StartExactly : Type 0
 StartExactly =
-    (t : Turn) (kind key nodes buckets : ℕ) (a : Answer) → 10 ≤ numberOf a
+    (t : Turn) (kind key nodes buckets : ℕ) (a : Answer) → hasRow a ≡ true
     → (startOf t kind key nodes buckets .answer ≡ a) ↔ RefusedBy (startClaims t kind key (TooShort (t .header) nodes buckets)) a
 
 abbrev pub StepExactly : Type 0
 StepExactly =
-    (t : Turn) (ns bs : List ℕ) (a : Answer) → 10 ≤ numberOf a
+    (t : Turn) (ns bs : List ℕ) (a : Answer) → hasRow a ≡ true
     → (stepOf t ns bs .out .answer ≡ a) ↔ RefusedBy (stepClaims t ns bs (TooShort (t .header) (length ns) (length bs))) a

@@ -1,11 +1,12 @@
 -- The calls over the lent table of records: when each is refused, in the order of the register's own, and that a refusal changes nothing.
-use Prim.Native.Nat.{ℕ, _≤_, _<_}
+use Prim.Native.Nat.{ℕ, _<_}
+use mathlib.Core.Bool.{true}
 use mathlib.Core.List.{List}
 use mathlib.Core.Logic.{_⊎_, _↔_}
 use mathlib.Core.Path.{_≡_}
 use lib.ListN.{length}
 use Rattle.choice.specs.Table.{RefusedBy}
-use Rattle.names.specs.Names.{numberOf}
+use Rattle.names.specs.Names.{hasRow}
 use Rattle.names.specs.declared.Answer.{Answer}
 use Rattle.header.specs.declared.Header.{Header}
 use Rattle.record.specs.declared.Worker.{Worker}
@@ -22,24 +23,24 @@ TableTooShort h records nodes buckets = TooShort h nodes buckets ⊎ (records < 
 -- ---- each refusal is given exactly when its row holds and no earlier one does
 abbrev pub PrepareAtExactly : Type 0
 PrepareAtExactly =
-    (l : Limits) (h : Header) (ws : List Worker) (ns bs : List ℕ) (a : Answer) → 10 ≤ numberOf a
+    (l : Limits) (h : Header) (ws : List Worker) (ns bs : List ℕ) (a : Answer) → hasRow a ≡ true
     → (prepareAt l h ws ns bs .called .answer ≡ a)
     ↔ RefusedBy (prepareClaims l (TableTooShort (freshHeader l) (length ws) (length ns) (length bs))) a
 
 -- the record is that of the table; past the table the number is W or above, and 13 comes before any record is looked at
 abbrev pub StartAtExactly : Type 0
 StartAtExactly =
-    (h : Header) (ws : List Worker) (w kind key : ℕ) (ns bs : List ℕ) (a : Answer) → 10 ≤ numberOf a
+    (h : Header) (ws : List Worker) (w kind key : ℕ) (ns bs : List ℕ) (a : Answer) → hasRow a ≡ true
     → (startAt h ws w kind key ns bs .called .answer ≡ a)
     ↔ RefusedBy (startClaims (turnAt h ws w) kind key (TableTooShort h (length ws) (length ns) (length bs))) a
 
 abbrev pub StepAtExactly : Type 0
 StepAtExactly =
-    (h : Header) (ws : List Worker) (w : ℕ) (ns bs : List ℕ) (a : Answer) → 10 ≤ numberOf a
+    (h : Header) (ws : List Worker) (w : ℕ) (ns bs : List ℕ) (a : Answer) → hasRow a ≡ true
     → (stepAt h ws w ns bs .called .answer ≡ a)
     ↔ RefusedBy (stepClaims (turnAt h ws w) ns bs (TableTooShort h (length ws) (length ns) (length bs))) a
 
--- ---- a refusal from 10 to 17 changes no word and no record, hands the header back and tells no steps
+-- ---- a refusal changes no word and no record, hands the header back and tells no steps
 pub record AllAsBefore (h : Header) (ws : List Worker) (ns bs : List ℕ) (l : Left) : Type 0 where
   pub header : l .called .header ≡ h
   pub steps : l .called .steps ≡ 0

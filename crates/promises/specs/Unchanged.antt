@@ -1,9 +1,10 @@
 -- "All the others from 10 on change no word and return header and record as they came (preparing is handed a header too)."
-use Prim.Native.Nat.{ℕ, _≤_}
+use Prim.Native.Nat.{ℕ}
+use mathlib.Core.Bool.{true}
 use mathlib.Core.List.{List}
 use mathlib.Core.Path.{_≡_}
 use Rattle.names.specs.declared.Answer.{Answer}
-use Rattle.names.specs.Names.{numberOf}
+use Rattle.names.specs.Names.{refuses}
 use Rattle.header.specs.declared.Header.{Header}
 use Rattle.prepare.specs.declared.Limits.{Limits}
 use Rattle.register.specs.declared.Turn.{Turn}
@@ -12,10 +13,9 @@ use Rattle.writes.specs.Carry.{After}
 use Rattle.prepare.specs.Prepare.{Kept, prepared}
 use Rattle.register.specs.Calls.{startOf, stepOf}
 
--- a refusal from 10 to 17: 18 and 19 end the operation
-pub record Refusal (a : Answer) : Type 0 where
-  pub from : 10 ≤ numberOf a
-  pub upTo : numberOf a ≤ 17
+-- a refusal: 18 and 19 end the operation
+abbrev pub Refusal : Answer → Type 0
+Refusal a = refuses a ≡ true
 
 -- header and record are handed back as they came, and no steps are told
 pub record HandedBack (t : Turn) (o : Outcome) : Type 0 where

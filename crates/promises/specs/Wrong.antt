@@ -8,7 +8,7 @@ use lib.Dec.{ltb, eqb}
 use lib.ListN.{length}
 use Rattle.choice.specs.Choice.{pick}
 use Rattle.words.specs.Words.{TAKEN, store}
-use Rattle.names.specs.Names.{I1, SZ, TB, B4, D4B, D6, KEY, INSERT, FIND, DELETE, numberOf}
+use Rattle.names.specs.Names.{I1, SZ, TB, B4, D4B, D6, KEY, INSERT, FIND, DELETE, goesOn}
 use Rattle.names.specs.declared.Answer.the-variants.{Going as GoingOn, Yes, Damaged as IsDamaged}
 use Rattle.header.specs.declared.Header.{Header}
 use Rattle.header.specs.Header.{counted, busied, doubles}
@@ -113,7 +113,7 @@ unfoldable pub toTheEnd : ℕ → Turn → List ℕ → List ℕ → After
 toTheEnd zero t ns bs = stepOf t ns bs
 toTheEnd (suc most) t ns bs =
     let a = stepOf t ns bs in
-    elim (eqb (numberOf (a .out .answer)) 0) [ true ↦ toTheEnd most (record { number = t .number; header = a .out .header; worker = a .out .worker }) (a .nodes) (a .buckets) | false ↦ a ]
+    elim (goesOn (a .out .answer)) [ true ↦ toTheEnd most (record { number = t .number; header = a .out .header; worker = a .out .worker }) (a .nodes) (a .buckets) | false ↦ a ]
 
 -- "one that does the whole operation at its first step and idles through the others"
 unfoldable pub allAtOnce : Step
@@ -136,7 +136,7 @@ inventsSteps t ns bs =
     let a = stepOf t ns bs in
     let o = a .out in
     let more : Outcome = record { answer = o .answer; steps = o .steps + 1; header = o .header; worker = o .worker } in
-    after (pick (eqb (numberOf (o .answer)) 0) o more) (a .nodes) (a .buckets)
+    after (pick (goesOn (o .answer)) o more) (a .nodes) (a .buckets)
 
 -- ---- "Errors that look reasonable"
 -- 1. "Reading the count as unsigned": the load test without its test of the sign

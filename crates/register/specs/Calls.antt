@@ -10,7 +10,7 @@ use Rattle.names.specs.Names.{IDLE, INSERT, DELETE, KEY-LIMIT}
 use Rattle.names.specs.declared.Answer.the-variants.{Going, Short, Damaged, NoWorker, KeyAbove, IsBusy, IsIdle, NoKind}
 use Rattle.names.specs.declared.Verdict.{Verdict}
 use Rattle.names.specs.declared.Verdict.the-variants.{Pass, Refused}
-use Rattle.names.specs.Verdicts.{refuses}
+use Rattle.names.specs.Verdicts.{refusedIf}
 use Rattle.header.specs.Header.{headerDamaged, isShort, busied}
 use Rattle.record.specs.Worker.{begun}
 use Rattle.faults.specs.Faults.{workerDamaged}
@@ -26,13 +26,13 @@ use Rattle.register.specs.Step.{refusedWith, seenBy, carried}
 unfoldable pub startVerdict : Turn → ℕ → ℕ → ℕ → ℕ → Verdict
 startVerdict t kind key nodes buckets =
     firstOf
-    (refuses Damaged (headerDamaged (t .header))
-    ∷ refuses Short (isShort (t .header) nodes buckets)
-    ∷ refuses NoWorker (leb (t .header .w) (t .number))
-    ∷ refuses NoKind (ltb kind INSERT || ltb DELETE kind)
-    ∷ refuses KeyAbove (ltb KEY-LIMIT key)
-    ∷ refuses Damaged (workerDamaged (t .header) (t .number) (t .worker))
-    ∷ refuses IsBusy (not (eqb (t .worker .place) IDLE))
+    (refusedIf Damaged (headerDamaged (t .header))
+    ∷ refusedIf Short (isShort (t .header) nodes buckets)
+    ∷ refusedIf NoWorker (leb (t .header .w) (t .number))
+    ∷ refusedIf NoKind (ltb kind INSERT || ltb DELETE kind)
+    ∷ refusedIf KeyAbove (ltb KEY-LIMIT key)
+    ∷ refusedIf Damaged (workerDamaged (t .header) (t .number) (t .worker))
+    ∷ refusedIf IsBusy (not (eqb (t .worker .place) IDLE))
     ∷ [])
     Pass
 
@@ -50,11 +50,11 @@ startOf t kind key nodes buckets = startedBy t kind key (startVerdict t kind key
 unfoldable pub stepVerdict : Turn → ℕ → ℕ → Verdict
 stepVerdict t nodes buckets =
     firstOf
-    (refuses Damaged (headerDamaged (t .header))
-    ∷ refuses Short (isShort (t .header) nodes buckets)
-    ∷ refuses NoWorker (leb (t .header .w) (t .number))
-    ∷ refuses Damaged (workerDamaged (t .header) (t .number) (t .worker))
-    ∷ refuses IsIdle (eqb (t .worker .place) IDLE)
+    (refusedIf Damaged (headerDamaged (t .header))
+    ∷ refusedIf Short (isShort (t .header) nodes buckets)
+    ∷ refusedIf NoWorker (leb (t .header .w) (t .number))
+    ∷ refusedIf Damaged (workerDamaged (t .header) (t .number) (t .worker))
+    ∷ refusedIf IsIdle (eqb (t .worker .place) IDLE)
     ∷ [])
     Pass
 

@@ -8,7 +8,7 @@ use Rattle.names.specs.Names.{IDLE, INSERT, DELETE, KEY-LIMIT}
 use Rattle.names.specs.declared.Answer.the-variants.{Short, Damaged, NoWorker, KeyAbove, IsBusy, IsIdle, NoKind}
 use Rattle.names.specs.declared.Verdict.{Verdict}
 use Rattle.names.specs.declared.Verdict.the-variants.{Pass, Refused}
-use Rattle.names.specs.Verdicts.{refuses}
+use Rattle.names.specs.Verdicts.{refusedIf}
 use Rattle.header.specs.Header.{headerDamaged, isShort}
 use Rattle.faults.specs.Faults.{workerDamaged}
 use Rattle.register.specs.declared.Ask.{Ask}
@@ -19,9 +19,9 @@ use Rattle.register.specs.declared.Turn.{Turn}
 unfoldable pub callVerdict : Turn → ℕ → ℕ → Verdict
 callVerdict t nodes buckets =
     firstOf
-    (refuses Damaged (headerDamaged (t .header))
-    ∷ refuses Short (isShort (t .header) nodes buckets)
-    ∷ refuses NoWorker (leb (t .header .w) (t .number))
+    (refusedIf Damaged (headerDamaged (t .header))
+    ∷ refusedIf Short (isShort (t .header) nodes buckets)
+    ∷ refusedIf NoWorker (leb (t .header .w) (t .number))
     ∷ [])
     Pass
 
@@ -29,8 +29,8 @@ callVerdict t nodes buckets =
 unfoldable pub askVerdict : Ask → Verdict
 askVerdict (Start kind key) =
     firstOf
-    (refuses NoKind (ltb kind INSERT || ltb DELETE kind)
-    ∷ refuses KeyAbove (ltb KEY-LIMIT key)
+    (refusedIf NoKind (ltb kind INSERT || ltb DELETE kind)
+    ∷ refusedIf KeyAbove (ltb KEY-LIMIT key)
     ∷ [])
     Pass
 askVerdict Step = Pass
@@ -44,11 +44,11 @@ followed Pass v = v
 unfoldable pub openVerdict : Turn → Ask → ℕ → ℕ → Verdict
 openVerdict t a nodes buckets =
     followed (callVerdict t nodes buckets)
-    (followed (askVerdict a) (firstOf (refuses Damaged (workerDamaged (t .header) (t .number) (t .worker)) ∷ []) Pass))
+    (followed (askVerdict a) (firstOf (refusedIf Damaged (workerDamaged (t .header) (t .number) (t .worker)) ∷ []) Pass))
 
 -- and then: 15 for a start, 16 for a step
 unfoldable pub busyVerdict : Turn → Verdict
-busyVerdict t = firstOf (refuses IsBusy (not (eqb (t .worker .place) IDLE)) ∷ []) Pass
+busyVerdict t = firstOf (refusedIf IsBusy (not (eqb (t .worker .place) IDLE)) ∷ []) Pass
 
 unfoldable pub idleVerdict : Turn → Verdict
-idleVerdict t = firstOf (refuses IsIdle (eqb (t .worker .place) IDLE) ∷ []) Pass
+idleVerdict t = firstOf (refusedIf IsIdle (eqb (t .worker .place) IDLE) ∷ []) Pass
