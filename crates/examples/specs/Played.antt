@@ -1,12 +1,11 @@
 -- A schedule played to its end over tables of zeros, by our register or by a wrong one, and the lines that it prints.
 use Prim.Native.Nat.{ℕ, zero, suc, _+_, _*_}
-use mathlib.Core.Bool.{Bool, _||_}
 use mathlib.Core.List.{List, [], _∷_}
 use mathlib.Core.Path.{_≡_}
-use lib.Dec.{ltb, eqb}
+use lib.Dec.{ltb}
 use lib.ListN.{length, getD}
 use Rattle.choice.specs.Choice.{pick}
-use Rattle.names.specs.Names.{numberOf}
+use Rattle.names.specs.Names.{ends}
 use Rattle.names.specs.declared.Answer.{Answer}
 use Rattle.names.specs.declared.Answer.the-variants.{Going}
 use Rattle.record.specs.Worker.{idle}
@@ -76,14 +75,11 @@ pub record Line : Type 0 where
 abbrev pub line : (worker kind key : ℕ) → Answer → (steps : ℕ) → Line
 line w kind key a n = record { worker = w; kind = kind; key = key; answer = a; steps = n }
 
-abbrev pub ended : Answer → Bool
-ended a = eqb (numberOf a) 1 || eqb (numberOf a) 2 || eqb (numberOf a) 18 || eqb (numberOf a) 19
-
 abbrev pub printed : State → Call → Left → List Line → List Line
 printed s (start w kind key) l rest = rest
 printed s (step w) l rest =
     let x = workerOf s w in
-    pick (ended (l .called .answer)) (line w (x .kind) (x .key) (l .called .answer) (l .called .steps) ∷ rest) rest
+    pick (ends (l .called .answer)) (line w (x .kind) (x .key) (l .called .answer) (l .called .steps) ∷ rest) rest
 
 -- the lines of these calls from a state on, by a register that leaves so much of a call
 abbrev pub linesOf : (State → Call → Left) → State → List Call → List Line

@@ -9,21 +9,23 @@ use lib.Dec.{eqb, ltb}
 use Rattle.choice.specs.Choice.{pick}
 use Rattle.choice.proofs.Auto.{pick-false}
 use Rattle.choice.proofs.Cases.{both}
-use Rattle.names.specs.Names.{INSERT, FIND, DELETE, numberOf}
+use Rattle.names.specs.Names.{INSERT, FIND, DELETE, ends}
+use Rattle.names.specs.declared.Answer.{Answer}
+use Rattle.names.proofs.Classes.{by-ending}
 use Rattle.lines.specs.declared.Line.{Line}
 use Rattle.lines.specs.declared.Line.the-variants.{Register, Ended, Refused, End}
 use Rattle.lines.specs.declared.Pieces.{Pieces}
 use Rattle.lines.specs.Decimal.{decimal, signed}
-use Rattle.lines.specs.Lines.{line, kindWord, answerWord, kindNamed, answerNamed, registerLine, endedLine, refusedLine, endLine, lineText}
+use Rattle.lines.specs.Lines.{line, kindWord, answerWord, kindNamed, registerLine, endedLine, refusedLine, endLine, lineText}
 use Rattle.lines.specs.Words.{wordAt, wordOfKind, wordOfAnswer}
 use Rattle.lines.specs.Pieces.{endOf, endedOf, endedPieces, registerPieces, refusedPieces, endPieces, piecesOf, piecesText}
 
--- where a word is missing, nothing
-pub ended-none : (worker kind key answer steps : ℕ) → kindNamed kind && answerNamed answer ≡ false → [] ≡ endedLine worker kind key answer steps
+-- where the kind has no word or no operation ended, nothing
+pub ended-none : (worker kind key : ℕ) (answer : Answer) (steps : ℕ) → kindNamed kind && ends answer ≡ false → [] ≡ endedLine worker kind key answer steps
 unfolding endedLine
 ended-none worker kind key answer steps e = sym (pick-false _ _ _ e)
 
--- a kind and an answer have no word exactly where they have no name
+-- a kind has no word exactly where it has no name
 kind-none : (kind : ℕ) → eqb (wordOfKind kind) 0 ≡ not (kindNamed kind)
 unfolding wordOfKind pick
 kind-none kind = by (eqb kind INSERT) (eqb kind FIND) (eqb kind DELETE)
@@ -33,17 +35,6 @@ kind-none kind = by (eqb kind INSERT) (eqb kind FIND) (eqb kind DELETE)
     by false true c = refl
     by false false true = refl
     by false false false = refl
-
-answer-none : (answer : ℕ) → eqb (wordOfAnswer answer) 0 ≡ not (answerNamed answer)
-unfolding wordOfAnswer pick
-answer-none answer = by (eqb answer 1) (eqb answer 2) (eqb answer 18) (eqb answer 19)
-  where
-    by : (a b c d : Bool) → eqb (pick a 9 (pick b 10 (pick c 11 (pick d 12 0)))) 0 ≡ not (a || (b || (c || d)))
-    by true b c d = refl
-    by false true c d = refl
-    by false false true d = refl
-    by false false false true = refl
-    by false false false false = refl
 
 -- and where there is one, it stands there with a space on both sides
 kind-spelled : (kind : ℕ) → kindNamed kind ≡ true → wordAt (wordOfKind kind) ≡ 32 ∷ (kindWord kind ++ (32 ∷ []))
@@ -57,17 +48,9 @@ kind-spelled kind = by (eqb kind INSERT) (eqb kind FIND) (eqb kind DELETE)
     by false false true e = refl
     by false false false e = cc
 
-answer-spelled : (answer : ℕ) → answerNamed answer ≡ true → wordAt (wordOfAnswer answer) ≡ 32 ∷ (answerWord answer ++ (32 ∷ []))
-unfolding wordOfAnswer answerWord pick
-answer-spelled answer = by (eqb answer 1) (eqb answer 2) (eqb answer 18) (eqb answer 19)
-  where
-    by : (a b c d : Bool) → a || (b || (c || d)) ≡ true
-        → wordAt (pick a 9 (pick b 10 (pick c 11 (pick d 12 0)))) ≡ 32 ∷ (pick a (121 ∷ 101 ∷ 115 ∷ []) (pick b (110 ∷ 111 ∷ []) (pick c (102 ∷ 117 ∷ 108 ∷ 108 ∷ []) (pick d (100 ∷ 117 ∷ 109 ∷ 109 ∷ 121 ∷ []) []))) ++ (32 ∷ []))
-    by true b c d e = refl
-    by false true c d e = refl
-    by false false true d e = refl
-    by false false false true e = refl
-    by false false false false e = cc
+answer-spelled : (a : Answer) → ends a ≡ true → wordAt (wordOfAnswer a) ≡ 32 ∷ (answerWord a ++ (32 ∷ []))
+unfolding answerWord
+answer-spelled = by-ending (λ (a : Answer). wordAt (wordOfAnswer a) ≡ 32 ∷ (answerWord a ++ (32 ∷ []))) refl refl refl refl
 
 -- joined one way and the other
 three : (a b c e : List ℕ) → ((a ++ b) ++ c) ++ e ≡ a ++ (b ++ (c ++ e))
@@ -93,9 +76,9 @@ end-said keys count size = by (ltb count 2147483648)
     by true = three (wordAt 3 ++ decimal keys) (32 ∷ decimal count) (32 ∷ decimal size) (10 ∷ [])
     by false = three (wordAt 3 ++ decimal keys) (32 ∷ 45 ∷ decimal (4294967296 - count)) (32 ∷ decimal size) (10 ∷ [])
 
-ended-said : (worker kind key answer steps : ℕ) → piecesText (endedPieces worker kind key answer steps) ≡ endedLine worker kind key answer steps
+ended-said : (worker kind key : ℕ) (answer : Answer) (steps : ℕ) → piecesText (endedPieces worker kind key answer steps) ≡ endedLine worker kind key answer steps
 unfolding endedPieces endedLine pick
-ended-said worker kind key answer steps = rw (kind-none kind, answer-none answer) (by (kindNamed kind) (answerNamed answer) refl refl)
+ended-said worker kind key answer steps = rw (kind-none kind) (by (kindNamed kind) (ends answer) refl refl)
   where
     of : ℕ → Pieces
     of count = endedOf count worker (wordOfKind kind) key (wordOfAnswer answer) steps
@@ -103,10 +86,10 @@ ended-said worker kind key answer steps = rw (kind-none kind, answer-none answer
     words : List ℕ
     words = line (decimal worker ∷ kindWord kind ∷ decimal key ∷ answerWord answer ∷ decimal steps ∷ [])
 
-    whole : kindNamed kind ≡ true → answerNamed answer ≡ true → piecesText (of 3) ≡ words
+    whole : kindNamed kind ≡ true → ends answer ≡ true → piecesText (of 3) ≡ words
     whole e f = rw (kind-spelled kind e, answer-spelled answer f) (simp append-assoc)
 
-    by : (a b : Bool) → kindNamed kind ≡ a → answerNamed answer ≡ b → piecesText (pick (not a || not b) (of 0) (of 3)) ≡ pick (a && b) words []
+    by : (a b : Bool) → kindNamed kind ≡ a → ends answer ≡ b → piecesText (pick (not a || not b) (of 0) (of 3)) ≡ pick (a && b) words []
     by true true e f = whole e f
     by true false e f = refl
     by false b e f = refl
@@ -114,7 +97,7 @@ ended-said worker kind key answer steps = rw (kind-none kind, answer-none answer
 -- every line
 pub said : (l : Line) → piecesText (piecesOf l) ≡ lineText l
 said (Register m k w l) = register-said m k w l
-said (Ended worker kind key answer steps) = ended-said worker kind key (numberOf answer) steps
+said (Ended worker kind key answer steps) = ended-said worker kind key answer steps
 said (Refused number offset) = refused-said number offset
 said (End keys count size) = end-said keys count size
 

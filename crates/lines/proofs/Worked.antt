@@ -3,6 +3,7 @@
 use mathlib.Core.Path.{_≡_, refl}
 use mathlib.Core.List.{[], _∷_}
 use Rattle.choice.specs.Choice.{pick}
+use Rattle.names.specs.declared.Answer.the-variants.{Yes}
 use Rattle.lines.specs.Decimal.{digitsIn, decimal, signed}
 use Rattle.lines.specs.Lines.{kindWord, answerWord, registerLine, endedLine, refusedLine, endLine}
 
@@ -12,7 +13,7 @@ unfolding registerLine decimal digitsIn pick
 register-4-4-1-1 = refl
 
 -- `0 insert 2 yes 7`
-pub insert-2-yes-7 : endedLine 0 1 2 1 7 ≡ 48 ∷ 32 ∷ 105 ∷ 110 ∷ 115 ∷ 101 ∷ 114 ∷ 116 ∷ 32 ∷ 50 ∷ 32 ∷ 121 ∷ 101 ∷ 115 ∷ 32 ∷ 55 ∷ 10 ∷ []
+pub insert-2-yes-7 : endedLine 0 1 2 Yes 7 ≡ 48 ∷ 32 ∷ 105 ∷ 110 ∷ 115 ∷ 101 ∷ 114 ∷ 116 ∷ 32 ∷ 50 ∷ 32 ∷ 121 ∷ 101 ∷ 115 ∷ 32 ∷ 55 ∷ 10 ∷ []
 unfolding endedLine kindWord answerWord decimal digitsIn pick
 insert-2-yes-7 = refl
 

@@ -4,7 +4,9 @@ use mathlib.Core.Bool.{Bool, _&&_, _||_}
 use mathlib.Core.List.{List, [], _∷_, _++_}
 use lib.Dec.{eqb}
 use Rattle.choice.specs.Choice.{pick}
-use Rattle.names.specs.Names.{INSERT, FIND, DELETE, numberOf}
+use Rattle.names.specs.Names.{INSERT, FIND, DELETE, ends}
+use Rattle.names.specs.declared.Answer.{Answer}
+use Rattle.names.specs.declared.Answer.the-variants.{Going, Yes, No, Limit, Short, Damaged, NoWorker, KeyAbove, IsBusy, IsIdle, NoKind, NoKeyNode, NoDummy}
 use Rattle.lines.specs.declared.Line.{Line}
 use Rattle.lines.specs.declared.Line.the-variants.{Register, Ended, Refused, End}
 use Rattle.lines.specs.Decimal.{decimal, signed}
@@ -34,30 +36,34 @@ kindWord kind =
     (pick (eqb kind FIND) (102 ∷ 105 ∷ 110 ∷ 100 ∷ [])
     (pick (eqb kind DELETE) (100 ∷ 101 ∷ 108 ∷ 101 ∷ 116 ∷ 101 ∷ []) []))
 
--- the answers of an ended operation, by the paper's numbers: `yes` 1, `no` 2, `full` 18, `dummy` 19; another has no word
-unfoldable pub answerWord : ℕ → List ℕ
-answerWord answer =
-    pick (eqb answer 1) (121 ∷ 101 ∷ 115 ∷ [])
-    (pick (eqb answer 2) (110 ∷ 111 ∷ [])
-    (pick (eqb answer 18) (102 ∷ 117 ∷ 108 ∷ 108 ∷ [])
-    (pick (eqb answer 19) (100 ∷ 117 ∷ 109 ∷ 109 ∷ 121 ∷ []) [])))
+-- the answers of an ended operation: `yes`, `no`, `full` (18), `dummy` (19); another has no word
+unfoldable pub answerWord : Answer → List ℕ
+answerWord Going = []
+answerWord Yes = 121 ∷ 101 ∷ 115 ∷ []
+answerWord No = 110 ∷ 111 ∷ []
+answerWord Limit = []
+answerWord Short = []
+answerWord Damaged = []
+answerWord NoWorker = []
+answerWord KeyAbove = []
+answerWord IsBusy = []
+answerWord IsIdle = []
+answerWord NoKind = []
+answerWord NoKeyNode = 102 ∷ 117 ∷ 108 ∷ 108 ∷ []
+answerWord NoDummy = 100 ∷ 117 ∷ 109 ∷ 109 ∷ 121 ∷ []
 
 -- the kind has a word
 abbrev pub kindNamed : ℕ → Bool
 kindNamed kind = eqb kind INSERT || (eqb kind FIND || eqb kind DELETE)
 
--- the answer has a word: the operation has ended
-abbrev pub answerNamed : ℕ → Bool
-answerNamed answer = eqb answer 1 || (eqb answer 2 || (eqb answer 18 || eqb answer 19))
-
 -- `register M K W L`
 unfoldable pub registerLine : ℕ → ℕ → ℕ → ℕ → List ℕ
 registerLine m k w l = line (REGISTER ∷ decimal m ∷ decimal k ∷ decimal w ∷ decimal l ∷ [])
 
--- `worker kind key answer steps`; nothing where the kind or the answer has no word
-unfoldable pub endedLine : ℕ → ℕ → ℕ → ℕ → ℕ → List ℕ
+-- `worker kind key answer steps`; nothing where the kind has no word or no operation ended
+unfoldable pub endedLine : ℕ → ℕ → ℕ → Answer → ℕ → List ℕ
 endedLine worker kind key answer steps =
-    pick (kindNamed kind && answerNamed answer)
+    pick (kindNamed kind && ends answer)
     (line (decimal worker ∷ kindWord kind ∷ decimal key ∷ answerWord answer ∷ decimal steps ∷ []))
     []
 
@@ -72,6 +78,6 @@ endLine keys count size = line (END ∷ decimal keys ∷ signed count ∷ decima
 -- a line's text
 abbrev pub lineText : Line → List ℕ
 lineText (Register m k w l) = registerLine m k w l
-lineText (Ended worker kind key answer steps) = endedLine worker kind key (numberOf answer) steps
+lineText (Ended worker kind key answer steps) = endedLine worker kind key answer steps
 lineText (Refused number offset) = refusedLine number offset
 lineText (End keys count size) = endLine keys count size

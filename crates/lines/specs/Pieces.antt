@@ -1,11 +1,12 @@
 -- A line as a few words with numbers between them.
 use Prim.Native.Nat.{ℕ, zero, suc, _-_}
-use mathlib.Core.Bool.{_||_}
+use mathlib.Core.Bool.{not, _||_}
 use mathlib.Core.List.{List, [], _∷_, _++_}
 use lib.Dec.{eqb, ltb}
 use lib.ListN.{getD}
 use Rattle.choice.specs.Choice.{pick}
-use Rattle.names.specs.Names.{numberOf}
+use Rattle.names.specs.Names.{ends}
+use Rattle.names.specs.declared.Answer.{Answer}
 use Rattle.lines.specs.declared.Line.{Line}
 use Rattle.lines.specs.declared.Line.the-variants.{Register, Ended, Refused, End}
 use Rattle.lines.specs.declared.Pieces.{Pieces}
@@ -25,10 +26,10 @@ registerPieces m k w l = pieces 4 (REGISTER ∷ SPACE ∷ SPACE ∷ SPACE ∷ NE
 abbrev pub endedOf : ℕ → ℕ → ℕ → ℕ → ℕ → ℕ → Pieces
 endedOf count worker what key told steps = pieces count (NOTHING ∷ what ∷ told ∷ NEWLINE ∷ NOTHING ∷ []) (worker ∷ key ∷ steps ∷ 0 ∷ [])
 
--- nothing where the kind or the answer has no word
-unfoldable pub endedPieces : ℕ → ℕ → ℕ → ℕ → ℕ → Pieces
+-- nothing where the kind has no word or no operation ended
+unfoldable pub endedPieces : ℕ → ℕ → ℕ → Answer → ℕ → Pieces
 endedPieces worker kind key answer steps =
-    pick (eqb (wordOfKind kind) NOTHING || eqb (wordOfAnswer answer) NOTHING)
+    pick (eqb (wordOfKind kind) NOTHING || not (ends answer))
     (endedOf 0 worker (wordOfKind kind) key (wordOfAnswer answer) steps)
     (endedOf 3 worker (wordOfKind kind) key (wordOfAnswer answer) steps)
 
@@ -47,7 +48,7 @@ endPieces keys count size = pick (ltb count 2147483648) (endOf keys SPACE count 
 -- the pieces of a line
 abbrev pub piecesOf : Line → Pieces
 piecesOf (Register m k w l) = registerPieces m k w l
-piecesOf (Ended worker kind key answer steps) = endedPieces worker kind key (numberOf answer) steps
+piecesOf (Ended worker kind key answer steps) = endedPieces worker kind key answer steps
 piecesOf (Refused number offset) = refusedPieces number offset
 piecesOf (End keys count size) = endPieces keys count size
 

@@ -5,6 +5,8 @@ use lib.Dec.{eqb}
 use lib.ListN.{take, drop, getD}
 use Rattle.choice.specs.Choice.{pick}
 use Rattle.names.specs.Names.{INSERT, FIND, DELETE}
+use Rattle.names.specs.declared.Answer.{Answer}
+use Rattle.names.specs.declared.Answer.the-variants.{Going, Yes, No, Limit, Short, Damaged, NoWorker, KeyAbove, IsBusy, IsIdle, NoKind, NoKeyNode, NoDummy}
 use Rattle.lines.specs.Word as word
 
 -- `register refused end   - insert  find  delete  yes  no  full  dummy `, and a newline
@@ -22,9 +24,21 @@ STARTS = 0 ∷ 0 ∷ 9 ∷ 17 ∷ 21 ∷ 22 ∷ 24 ∷ 32 ∷ 38 ∷ 46 ∷ 51 �
 abbrev pub wordAt : ℕ → List ℕ
 wordAt w = take (getD STARTS (w + 1) 0 - getD STARTS w 0) (drop (getD STARTS w 0) WORDS)
 
--- the word of a kind, and of an answer by its number; nothing where it has none
+-- the word of a kind, and of an answer; nothing where it has none
 unfoldable pub wordOfKind : ℕ → ℕ
 wordOfKind kind = pick (eqb kind INSERT) word.INSERT (pick (eqb kind FIND) word.FIND (pick (eqb kind DELETE) word.DELETE word.NOTHING))
 
-unfoldable pub wordOfAnswer : ℕ → ℕ
-wordOfAnswer answer = pick (eqb answer 1) word.YES (pick (eqb answer 2) word.NO (pick (eqb answer 18) word.FULL (pick (eqb answer 19) word.DUMMY word.NOTHING)))
+abbrev pub wordOfAnswer : Answer → ℕ
+wordOfAnswer Going = word.NOTHING
+wordOfAnswer Yes = word.YES
+wordOfAnswer No = word.NO
+wordOfAnswer Limit = word.NOTHING
+wordOfAnswer Short = word.NOTHING
+wordOfAnswer Damaged = word.NOTHING
+wordOfAnswer NoWorker = word.NOTHING
+wordOfAnswer KeyAbove = word.NOTHING
+wordOfAnswer IsBusy = word.NOTHING
+wordOfAnswer IsIdle = word.NOTHING
+wordOfAnswer NoKind = word.NOTHING
+wordOfAnswer NoKeyNode = word.FULL
+wordOfAnswer NoDummy = word.DUMMY

@@ -70,23 +70,25 @@ fn word_of_kind(kind: u32) -> u8
     NOTHING
 }
 
-// The word of an answer, by its number; nothing where it has none.
-fn word_of_answer(answer: u32) -> u8
+// The word of an answer; nothing where it has none.
+fn word_of_answer(answer: Answer) -> u8
     ensures { λ r. ⌜ r ≡ wordOfAnswer answer ⌝ }
 {
-    if answer == 1 {
-        return word::YES;
+    match answer {
+        Answer::Going => NOTHING,
+        Answer::Yes => word::YES,
+        Answer::No => word::NO,
+        Answer::Limit => NOTHING,
+        Answer::Short => NOTHING,
+        Answer::Damaged => NOTHING,
+        Answer::NoWorker => NOTHING,
+        Answer::KeyAbove => NOTHING,
+        Answer::IsBusy => NOTHING,
+        Answer::IsIdle => NOTHING,
+        Answer::NoKind => NOTHING,
+        Answer::NoKeyNode => word::FULL,
+        Answer::NoDummy => word::DUMMY,
     }
-    if answer == 2 {
-        return word::NO;
-    }
-    if answer == 18 {
-        return word::FULL;
-    }
-    if answer == 19 {
-        return word::DUMMY;
-    }
-    NOTHING
 }
 
 // A register that was prepared.
@@ -102,15 +104,15 @@ fn register_pieces(m: u32, k: u32, w: u32, l: u32) -> Pieces
     }
 }
 
-// An operation that ended; nothing where the kind or the answer has no word.
-fn ended_pieces(worker: u32, kind: u32, key: u32, answer: u32, steps: u32) -> Pieces
+// An operation that ended; nothing where the kind has no word or no operation ended.
+fn ended_pieces(worker: u32, kind: u32, key: u32, answer: Answer, steps: u32) -> Pieces
     ensures { λ r. ⌜ r ≡ endedPieces worker kind key answer steps ⌝ }
 {
     let what = word_of_kind(kind);
     let told = word_of_answer(answer);
     let words = [NOTHING, what, told, NEWLINE, NOTHING];
     let numbers = [worker as u64, key as u64, steps as u64, 0];
-    if (what == NOTHING) | (told == NOTHING) {
+    if (what == NOTHING) | !answer.ends() {
         return Pieces {
             words: words,
             numbers: numbers,
@@ -171,7 +173,7 @@ fn pieces_of(line: Line) -> Pieces
             key,
             answer,
             steps,
-        } => ended_pieces(worker, kind, key, answer.number(), steps),
+        } => ended_pieces(worker, kind, key, answer, steps),
         Line::Refused { number, offset } => refused_pieces(number, offset),
         Line::End { keys, count, size } => end_pieces(keys, count, size),
     }

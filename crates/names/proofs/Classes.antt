@@ -1,10 +1,9 @@
 -- An answer's number is its own and tells its class, case by case; the rest follows from that.
 -- Assumes nothing.
 use Prim.Native.Nat.{ℕ}
-use native.Mathlib.Omega.{arith}
 use mathlib.Core.Path.{_≡_, refl, sym, ap, _∙_}
-use mathlib.Core.Bool.{Bool, true, false, true≢false, not, _&&_, _||_}
-use mathlib.Core.Logic.{_⊎_, inl, inr, ⊎-elim, _↔_}
+use mathlib.Core.Bool.{Bool, true, false, false≢true, not, _&&_, _||_}
+use mathlib.Core.Logic.{⊎-elim, _↔_}
 use lib.Dec.{eqb, leb}
 use Rattle.choice.specs.Choice.{pick}
 use Rattle.choice.proofs.Exactly.{Tells}
@@ -89,13 +88,6 @@ classes-by-number a =
 pub refused-stops : (a : Answer) → refuses a ≡ true → goesOn a ≡ false
 refused-stops a r = ap (λ (t : Bool). not (t || ends a)) r
 
--- and ends nothing
-pub refused-or-ended : (a : Answer) → refuses a ≡ true → ends a ≡ true → ⊥
-refused-or-ended a r e =
-    let c = classes-by-number a in
-    let n = c .0 .0 r in
-    ⊎-elim (λ q. omega (arith, n .0)) (⊎-elim (λ q. omega (arith, n .0)) (⊎-elim (λ q. omega (arith, n .1)) (λ q. omega (arith, n .1)))) (c .1 .0 e)
-
 -- one alone goes on
 pub only-going : (a : Answer) → goesOn a ≡ true → a ≡ Going
 only-going a g = one-number a Going (classes-by-number a .2 .0 g)
@@ -107,11 +99,14 @@ stopped a n = by (goesOn a) refl
     by true e = absurd (n (only-going a e))
     by false e = e
 
--- four end an operation
-pub endings : (a : Answer) → ends a ≡ true → (a ≡ Yes) ⊎ (a ≡ No) ⊎ (a ≡ NoKeyNode) ⊎ (a ≡ NoDummy)
-endings a e =
-    ⊎-elim (λ q. inl (one-number a Yes q))
-    (⊎-elim (λ q. inr (inl (one-number a No q)))
-    (⊎-elim (λ q. inr (inr (inl (one-number a NoKeyNode q))))
-    (λ q. inr (inr (inr (one-number a NoDummy q))))))
+-- what holds of the four that end an operation
+pub by-ending : (P : Answer → Type 0) → P Yes → P No → P NoKeyNode → P NoDummy → (a : Answer) → ends a ≡ true → P a
+by-ending P p q f d a e =
+    ⊎-elim (λ n. rw (one-number a Yes n) p)
+    (⊎-elim (λ n. rw (one-number a No n) q)
+    (⊎-elim (λ n. rw (one-number a NoKeyNode n) f) (λ n. rw (one-number a NoDummy n) d)))
     (classes-by-number a .1 .0 e)
+
+-- a refusal ends nothing
+pub refused-or-ended : (a : Answer) → refuses a ≡ true → ends a ≡ true → ⊥
+refused-or-ended a r e = by-ending (λ (b : Answer). refuses b ≡ true → ⊥) false≢true false≢true false≢true false≢true a e r

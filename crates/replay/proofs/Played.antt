@@ -1,25 +1,24 @@
--- The answer's number says which line a call has; an exponent outside 1 to 10 gives a limit that preparing refuses.
+-- The answer's class says which line a call has; an exponent outside 1 to 10 gives a limit that preparing refuses.
 -- Assumes nothing.
-use Prim.Native.Nat.{ℕ, zero, suc, _^_, _<_}
-use mathlib.Core.Bool.{Bool, true, false, _&&_}
-use mathlib.Core.Path.{_≡_, refl, sym, ap, _∙_}
-use mathlib.Core.List.{List, []}
+use Prim.Native.Nat.{ℕ, _^_, _<_}
+use mathlib.Core.Bool.{true, false, and-false}
+use mathlib.Core.Path.{_≡_, sym, ap, _∙_}
+use mathlib.Core.List.{List}
 use native.Mathlib.Omega.{arith}
-use lib.Dec.{ltb, eqb}
+use lib.Dec.{ltb}
 use lib.ListN.{length, getD, replicate}
-use borrow.Author.Tests.{ne-eqb}
-use Rattle.choice.specs.Choice.{pick}
 use Rattle.choice.proofs.Auto.{pick-true, pick-false}
-use Rattle.choice.proofs.Cases.{both}
+use Rattle.choice.proofs.Cases.{by-bool, both}
 use Rattle.choice.proofs.Telling.{clears-lt, clears-or}
-use Rattle.names.specs.Names.{numberOf}
+use Rattle.names.specs.Names.{numberOf, refuses, goesOn}
+use Rattle.names.proofs.Classes.{refused-stops, only-going}
 use Rattle.names.specs.declared.Answer.{Answer}
 use Rattle.names.specs.declared.Answer.the-variants.{Limit, Short}
 use Rattle.header.specs.declared.Header.{Header}
 use Rattle.header.specs.Header.{outside, limitBroken}
 use Rattle.tree.specs.Tree.{powerUpTo}
 use Rattle.record.specs.declared.Worker.{Worker}
-use Rattle.record.specs.Worker.{idle, within}
+use Rattle.record.specs.Worker.{idle}
 use Rattle.prepare.specs.declared.Limits.{Limits}
 use Rattle.names.specs.declared.Verdict.the-variants.{Refused}
 use Rattle.prepare.specs.Prepare.{freshHeader, prepareVerdict, tooFewFor}
@@ -31,30 +30,17 @@ use Rattle.replay.specs.declared.Operation.{Operation}
 use Rattle.replay.specs.Play.{bucketsOf, limitsOf, blank, prepared, callLine}
 
 -- ---- the line of a call
--- a refusal is not going on
-refusal-stops : (n : ℕ) → within 10 17 n ≡ true → eqb n 0 ≡ false
-refusal-stops zero e = sym e
-refusal-stops (suc n) e = ne-eqb (suc n) 0 (λ z. omega arith)
-
-pub refused-line : (o : Operation) (a : Answer) (steps offset n : ℕ) → n ≡ numberOf a → within 10 17 n ≡ true → refusedLine n offset ≡ callLine o a steps offset
+pub refused-line : (o : Operation) (a : Answer) (steps offset n : ℕ) → n ≡ numberOf a → refuses a ≡ true → refusedLine n offset ≡ callLine o a steps offset
 unfolding callLine
-refused-line o a steps offset n e r = ap (λ (k : ℕ). refusedLine k offset) e ∙ (rw e at line)
-  where
-    line : refusedLine n offset ≡ pick (eqb n 0) [] (pick (within 10 17 n) (refusedLine n offset) (endedLine (o .worker) (o .kind) (o .key) n steps))
-    line = sym (pick-false (eqb n 0) _ _ (refusal-stops n r) ∙ pick-true (within 10 17 n) _ _ r)
+refused-line o a steps offset n e r = ap (λ (k : ℕ). refusedLine k offset) e ∙ sym (pick-false _ _ _ (refused-stops a r) ∙ pick-true _ _ _ r)
 
--- going on has no word, so its line is nothing
-and-false : (b : Bool) → b && false ≡ false
-and-false true = refl
-and-false false = refl
-
-not-refused : (w kind key n steps : ℕ) (line : List ℕ) → within 10 17 n ≡ false → endedLine w kind key n steps ≡ pick (eqb n 0) [] (pick (within 10 17 n) line (endedLine w kind key n steps))
-not-refused w kind key zero steps line r = sym (ended-none w kind key 0 steps (and-false (kindNamed kind))) ∙ sym (pick-true (eqb 0 0) _ _ refl)
-not-refused w kind key (suc n) steps line r = sym (pick-false (eqb (suc n) 0) _ _ (ne-eqb (suc n) 0 (λ z. omega arith)) ∙ pick-false (within 10 17 (suc n)) _ _ r)
-
-pub other-line : (o : Operation) (a : Answer) (steps offset n : ℕ) → n ≡ numberOf a → within 10 17 n ≡ false → endedLine (o .worker) (o .kind) (o .key) (numberOf a) steps ≡ callLine o a steps offset
+-- going on ends nothing, so its line is nothing
+pub other-line : (o : Operation) (a : Answer) (steps offset : ℕ) → refuses a ≡ false → endedLine (o .worker) (o .kind) (o .key) a steps ≡ callLine o a steps offset
 unfolding callLine
-other-line o a steps offset n e r = rw e at (not-refused (o .worker) (o .kind) (o .key) n steps (refusedLine n offset) r)
+other-line o a steps offset r =
+    by-bool (λ (text : List ℕ). endedLine (o .worker) (o .kind) (o .key) a steps ≡ text) (goesOn a)
+    (λ g. sym (ended-none (o .worker) (o .kind) (o .key) a steps (rw (only-going a g) (and-false (kindNamed (o .kind))))))
+    (λ _. sym (pick-false _ _ _ r))
 
 -- ---- an exponent that is not outside 1 to 10
 pub exponent-fits : (e : ℕ) → outside 1 10 e ≡ false → e < 32

@@ -8,7 +8,7 @@ use native.Mathlib.Omega.{arith}
 use lib.ListN.{length, replicate}
 use borrow.Author.Tests.{lt-ltb, le-ltb, le-leb, lt-leb, eq-eqb, ne-eqb}
 use Rattle.choice.proofs.Auto.{pick-true, pick-false}
-use Rattle.names.specs.Names.{numberOf}
+use Rattle.names.specs.Names.{numberOf, goesOn}
 use Rattle.names.specs.declared.Answer.{Answer}
 use Rattle.crew.specs.Crew.{Left}
 use Rattle.script.specs.Script.{entryAt, bodyAt}
@@ -32,14 +32,14 @@ unfolding stopLine
 stop-refused input offset s h e = rw e (sym (pick-false _ _ _ (lt-leb (length input) offset h)))
 
 -- ---- the first record
-module _ (input : List ℕ) (next n : ℕ) (a : Answer) (l : Left) (body ns bs : List ℕ) (is : l ≡ prepared body ns bs) (of : body ≡ bodyAt input 0) (told : a ≡ l .called .answer) (number : n ≡ numberOf a) where
-  pub begun-refused : (n ≡ 0 → ⊥) → refusedLine n 0 ≡ begun input next (prepared (bodyAt input 0) ns bs)
+module _ (input : List ℕ) (next : ℕ) (a : Answer) (l : Left) (body ns bs : List ℕ) (is : l ≡ prepared body ns bs) (of : body ≡ bodyAt input 0) (told : a ≡ l .called .answer) where
+  pub begun-refused : goesOn a ≡ false → refusedLine (numberOf a) 0 ≡ begun input next (prepared (bodyAt input 0) ns bs)
   unfolding begun
-  begun-refused h = rw (← of, ← is, ← told, ← number) (sym (pick-false _ _ _ (ne-eqb n 0 h)))
+  begun-refused h = rw (← of, ← is, ← told) (sym (pick-false _ _ _ h))
 
-  pub begun-on : n ≡ 0 → firstLine (l .called .header) ++ followed input (length input) next l ≡ begun input next (prepared (bodyAt input 0) ns bs)
+  pub begun-on : goesOn a ≡ true → firstLine (l .called .header) ++ followed input (length input) next l ≡ begun input next (prepared (bodyAt input 0) ns bs)
   unfolding begun
-  begun-on h = rw (← of, ← is, ← told, ← number) (sym (pick-true _ _ _ (eq-eqb n 0 h)))
+  begun-on h = rw (← of, ← is, ← told) (sym (pick-true _ _ _ h))
 
 -- ---- the run
 pub printed-long : (input : List ℕ) → LONGEST < length input → refusedLine 33 LONGEST ≡ printed input

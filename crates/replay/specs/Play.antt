@@ -5,17 +5,17 @@ use mathlib.Core.List.{List, []}
 use lib.Dec.{ltb, leb, eqb}
 use lib.ListN.{getD, replicate}
 use Rattle.choice.specs.Choice.{pick}
-use Rattle.names.specs.Names.{numberOf}
+use Rattle.names.specs.Names.{numberOf, refuses, goesOn}
 use Rattle.names.specs.declared.Answer.{Answer}
 use Rattle.names.specs.declared.Answer.the-variants.{Going}
 use Rattle.header.specs.declared.Header.{Header}
 use Rattle.header.specs.Header.{fresh, outside}
 use Rattle.record.specs.declared.Worker.{Worker}
-use Rattle.record.specs.Worker.{idle, within}
+use Rattle.record.specs.Worker.{idle}
 use Rattle.prepare.specs.declared.Limits.{Limits}
 use Rattle.crew.specs.declared.Call.{Call}
 use Rattle.crew.specs.declared.Call.the-variants.{Start, Steps}
-use Rattle.crew.specs.Crew.{Left, left, going, prepareAt, serveAt}
+use Rattle.crew.specs.Crew.{Left, left, prepareAt, serveAt}
 use Rattle.numbers.specs.Numbers.{littleEndian}
 use Rattle.lines.specs.Lines.{endedLine, refusedLine}
 use Rattle.replay.specs.declared.Operation.{Operation}
@@ -64,13 +64,8 @@ operationOf w ws =
     let x = getD ws w idle in
     record { worker = w; kind = x .kind; key = x .key }
 
--- 10 to 17 refuse a call; 18 and 19 end its operation
-abbrev pub refusal : ℕ → Bool
-refusal number = within 10 17 number
-
 -- nothing while the operation goes on; `refused number offset`; or, at its end, `worker kind key answer steps`
 unfoldable pub callLine : Operation → Answer → ℕ → ℕ → List ℕ
 callLine o answer steps offset =
-    let number = numberOf answer in
-    pick (going answer) []
-    (pick (refusal number) (refusedLine number offset) (endedLine (o .worker) (o .kind) (o .key) number steps))
+    pick (goesOn answer) []
+    (pick (refuses answer) (refusedLine (numberOf answer) offset) (endedLine (o .worker) (o .kind) (o .key) answer steps))

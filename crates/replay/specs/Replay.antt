@@ -5,11 +5,11 @@ use mathlib.Core.List.{List, [], _++_}
 use lib.Dec.{ltb, leb, eqb}
 use lib.ListN.{length, replicate}
 use Rattle.choice.specs.Choice.{pick}
-use Rattle.names.specs.Names.{numberOf}
+use Rattle.names.specs.Names.{numberOf, goesOn}
 use Rattle.chain.specs.Chain.{keysFrom}
 use Rattle.header.specs.declared.Header.{Header}
 use Rattle.record.specs.Worker.{within}
-use Rattle.crew.specs.Crew.{Left, going}
+use Rattle.crew.specs.Crew.{Left}
 use Rattle.script.specs.declared.Entry.{Entry}
 use Rattle.script.specs.declared.Entry.the-variants.{End, Unknown, Cut, Whole}
 use Rattle.script.specs.Script.{entryAt, bodyAt}
@@ -83,7 +83,7 @@ firstLine h = registerLine (h .m) (h .k) (h .w) (h .l)
 
 unfoldable pub begun : List ℕ → ℕ → Left → List ℕ
 begun input next l =
-    pick (going (l .called .answer)) (firstLine (l .called .header) ++ followed input (length input) next l)
+    pick (goesOn (l .called .answer)) (firstLine (l .called .header) ++ followed input (length input) next l)
     (refusedLine (numberOf (l .called .answer)) 0)
 
 -- ---- the bytes of a schedule to the bytes of the text that it prints

@@ -178,9 +178,8 @@ fn put_call(
 ) -> usize
     ensures { λ r. ⌜ Laid (now (out .entry)) at (callLine operation answer steps offset) (now (out .exit)) r ⌝ }
 {
-    let number = answer.number();
-    if (10 <= number) & (number <= 17) {
-        return put_refused(out, at, number, offset);
+    if answer.refuses() {
+        return put_refused(out, at, answer.number(), offset);
     }
     let ended = Line::Ended {
         worker: operation.worker,
@@ -281,9 +280,8 @@ fn begin(
 {
     let mut bank = ready(script::body_of(schedule, 0), nodes, buckets);
     let answer = answer_of(bank);
-    let number = answer.number();
-    if number != 0 {
-        return put_refused(out, 0, number, 0);
+    if !answer.goes_on() {
+        return put_refused(out, 0, answer.number(), 0);
     }
     let mut place = put_first(out, bank.called.header);
     let mut offset = next;

@@ -10,7 +10,9 @@ use lib.Dec.{eqb}
 use borrow.Author.Tests.{eq-eqb, eqb-true}
 use Rattle.choice.proofs.Auto.{pick-true, pick-false}
 use Rattle.split.specs.Split.{regular}
-use Rattle.names.specs.Names.{IDLE, INSERT, FIND, DELETE, numberOf}
+use Rattle.names.specs.Names as names
+use Rattle.names.specs.Names.{IDLE, INSERT, FIND, DELETE, goesOn}
+use Rattle.names.proofs.Classes.{only-going, refused-or-ended}
 use Rattle.names.specs.declared.Answer.{Answer}
 use Rattle.names.specs.declared.Answer.the-variants.{Going, Yes, No, Limit, Short, Damaged, NoWorker, KeyAbove, IsBusy, IsIdle, NoKind, NoKeyNode, NoDummy}
 use Rattle.header.specs.Header.{nodesOf, dummiesOf}
@@ -26,7 +28,7 @@ use Rattle.story.proofs.Facts.{Fact}
 use Rattle.story.proofs.Registers.{gap}
 use Rattle.story.proofs.Steps.{tookAt, Turned, ToldBy, Presently, Absently}
 use Rattle.story.proofs.Calls.{Tale, refused, begins, goes, ends}
-use Rattle.story.proofs.Theorem.{Saw, Past, good, made-at, only-going, alive}
+use Rattle.story.proofs.Theorem.{Saw, Past, good, made-at, alive}
 use Rattle.story.proofs.Moments.{still, owns-mine, says-added, says-removed, says-some, says-effect, EventIn, Op, ops}
 
 -- ---- the step that ends an operation
@@ -36,21 +38,14 @@ record End (r : Trace) (e w : ℕ) : Type 0 where
   none : eventAt r e ≡ nothing
   told : ToldBy (state r e .nodes) (Past r e w) (workerOf (state r e) w) (tookAt (workerOf (state r e) w)) (answerAt r e)
 
-last : (a : Answer) → Ends a → (1 ≤ numberOf a) × ((numberOf a ≤ 2) ⊎ (18 ≤ numberOf a))
-last a (inl e) = rw e (omega arith, inl (omega arith))
-last a (inr (inl e)) = rw e (omega arith, inl (omega arith))
-last a (inr (inr (inl e))) = rw e (omega arith, inr (omega arith))
-last a (inr (inr (inr e))) = rw e (omega arith, inr (omega arith))
-
 ending : (r : Trace) (e w : ℕ) → r .call e ≡ step w → Ends (answerAt r e) → End r e w
-ending r e w ec d = by (made-at r e (good r e) .tale) (last (answerAt r e) d)
+ending r e w ec d = by (made-at r e (good r e) .tale)
   where
-    by : Tale (state r e) (Past r e) (r .call e) (answerAt r e) (state r (suc e)) (eventAt r e)
-        → (1 ≤ numberOf (answerAt r e)) × ((numberOf (answerAt r e) ≤ 2) ⊎ (18 ≤ numberOf (answerAt r e))) → End r e w
-    by (refused ew en lo hi hc) n = absurd (⊎-elim (λ q. omega arith) (λ q. omega arith) (n .1))
-    by (begins v kind k q l ew en ea hc xi) n = let z : _≡_ {A = ℕ} 0 1 = cc in absurd (omega arith)
-    by (goes v q l y ew ek ey nb tn ea ty) n = absurd (omega (arith, n .0, ap numberOf ea))
-    by (ends v q l ew en nb td ty) n = subst (λ (u : ℕ). End r e u) same (record { real = l; busy = nb; none = en; told = td })
+    by : Tale (state r e) (Past r e) (r .call e) (answerAt r e) (state r (suc e)) (eventAt r e) → End r e w
+    by (refused ew en rf hc) = absurd (refused-or-ended (answerAt r e) rf d)
+    by (begins v kind k q l ew en ea hc xi) = let z : _≡_ {A = ℕ} 0 1 = cc in absurd (omega arith)
+    by (goes v q l y ew ek ey nb tn ea ty) = absurd (true≢false (sym d ∙ ap names.ends ea))
+    by (ends v q l ew en nb td ty) = subst (λ (u : ℕ). End r e u) same (record { real = l; busy = nb; none = en; told = td })
       where
         same : v ≡ w
         same = cc
@@ -69,14 +64,13 @@ module _ (r : Trace) (e w : ℕ) (d : End r e w) where
   find-quiet : x .kind ≡ FIND → tookAt x ≡ false
   find-quiet k = ⊎-elim (λ p. absurd (says-effect (p .2 .what) k)) (λ p. p .0) (op .flag)
 
-  undone : (answerAt r e ≡ Yes → x .kind ≡ FIND) → Ends (answerAt r e) → tookAt x ≡ false
-  undone f (inl y) = find-quiet (f y)
-  undone f (inr o) = d .told .undone (λ y. not-yes o y)
+  -- one that ended without a yes, but for a find, did not take effect
+  undone : (answerAt r e ≡ Yes → x .kind ≡ FIND) → tookAt x ≡ false
+  undone f = by (tookAt x) refl
     where
-      not-yes : {a : Answer} → (a ≡ No) ⊎ (a ≡ NoKeyNode) ⊎ (a ≡ NoDummy) → a ≡ Yes → ⊥
-      not-yes (inl p) q = let z : _≡_ {A = ℕ} 0 1 = cc in omega arith
-      not-yes (inr (inl p)) q = let z : _≡_ {A = ℕ} 0 1 = cc in omega arith
-      not-yes (inr (inr p)) q = let z : _≡_ {A = ℕ} 0 1 = cc in omega arith
+      by : (t : Bool) → tookAt x ≡ t → tookAt x ≡ false
+      by true t = d .told .undone (λ y. true≢false (sym t ∙ find-quiet (f y)))
+      by false t = t
 
   -- an operation that did not take effect had no event
   none-of : tookAt x ≡ false → effects r w e ≡ 0
@@ -109,7 +103,7 @@ first-event r j w ec ne = by (made-at r j (good r j) .tale)
     turned x a b (removed k) n t = t .0
 
     by : Tale (state r j) (Past r j) (r .call j) (answerAt r j) (state r (suc j)) (eventAt r j) → effects r w j ≡ 0
-    by (refused ew en lo hi hc) = absurd (ne en)
+    by (refused ew en rf hc) = absurd (ne en)
     by (begins v kind k q l ew en ea hc xi) = absurd (ne en)
     by (goes v q l y ew ek ey nb tn ea ty) =
         let z = turned (workerOf (state r j) v) (tookAt (workerOf (state r j) v)) (tookAt y) (eventAt r j) ne tn in
@@ -120,8 +114,8 @@ first-event r j w ec ne = by (made-at r j (good r j) .tale)
 -- ---- an operation is the last that its worker started
 starts-means : (w : ℕ) (c : Call) (a : Answer) → startsOf w c a ≡ true → (kind : ℕ) × (k : ℕ) × (c ≡ start w kind k) × (a ≡ Going)
 starts-means w (start v kind k) a e =
-    let p = and-true (eqb v w) (eqb (numberOf a) 0) e in
-    (kind, k, ap (λ (u : ℕ). start u kind k) (eqb-true v w (p .0)), only-going a (eqb-true (numberOf a) 0 (p .1)))
+    let p = and-true (eqb v w) (goesOn a) e in
+    (kind, k, ap (λ (u : ℕ). start u kind k) (eqb-true v w (p .0)), only-going a (p .1))
   where
     and-true : (s t : Bool) → (s && t) ≡ true → (s ≡ true) × (t ≡ true)
     and-true true t e = (refl, e)
@@ -194,7 +188,7 @@ own-event r i ne = by (made-at r i (good r i) .tale)
 
     by : Tale (state r i) (Past r i) (r .call i) (answerAt r i) (state r (suc i)) (eventAt r i)
         → (w : ℕ) × (kind : ℕ) × (k : ℕ) × (b : ℕ) × Operation r w kind k b i × Own r w b i i × Says k ⊥ kind Yes (eventAt r i)
-    by (refused ew en lo hi hc) = absurd (ne en)
+    by (refused ew en rf hc) = absurd (ne en)
     by (begins v kind k q l ew en ea hc xi) = absurd (ne en)
     by (goes v q l y ew ek ey nb tn ea ty) =
         let o = operation r i v l nb in
@@ -247,9 +241,9 @@ module _ (r : Trace) (w kind k b e : ℕ) (o : Operation r w kind k b e) where
 pub own-effect : OwnEffect
 own-effect r w kind k b e o = record {
   once = once r w kind k b e o;
-  some = λ ec y nf. let q = took r w kind k b e o ec (ending r e w ec (inl y)) y nf in (q .0, q .1, says-some (q .2));
+  some = λ ec y nf. let q = took r w kind k b e o ec (ending r e w ec (ap names.ends y)) y nf in (q .0, q .1, says-some (q .2));
   none = λ ec en f. let d = ending r e w ec en in
-      quiet r w kind k b e o ec d (none-of r e w d (undone r e w d (λ y. sym (same r w kind k b e o ec d .0) ∙ f y) en));
+      quiet r w kind k b e o ec d (none-of r e w d (undone r e w d (λ y. sym (same r w kind k b e o ec d .0) ∙ f y)));
 }
 
 -- ---- true at a moment
@@ -303,18 +297,18 @@ module _ (r : Trace) (w kind k b e : ℕ) (o : Operation r w kind k b e) (ec : r
   moment (inl y) = by (ℕ-discrete kind FIND)
     where
       d : End r e w
-      d = ending r e w ec (inl y)
+      d = ending r e w ec (ap names.ends y)
 
       eq : (kind ≡ workerOf (state r e) w .kind) × (k ≡ workerOf (state r e) w .key)
       eq = same r w kind k b e o ec d
 
       by : Dec (kind ≡ FIND) → M
       by (yes f) = present d (none-of r e w d (find-quiet r e w d (sym (eq .0) ∙ f))) (inl (f, y)) (rw (eq .1) (d .told .yes y (sym (eq .0) ∙ f)))
-      by (no nf) = let q = took r w kind k b e o ec d y nf in (q .0, q .1, rw y (says-own (q .2)))
+      by (no nf) = let q = took r w kind k b e o ec d y nf in (q .0, q .1, subst (λ (c : Answer). Says k (Registered (state r (q .0) .nodes) k) kind c (eventAt r (q .0))) (sym y) (says-own (q .2)))
   moment (inr n) = by (ℕ-discrete kind INSERT) (ℕ-discrete kind FIND)
     where
       d : End r e w
-      d = ending r e w ec (inr (inl n))
+      d = ending r e w ec (ap names.ends n)
 
       eq : (kind ≡ workerOf (state r e) w .kind) × (k ≡ workerOf (state r e) w .key)
       eq = same r w kind k b e o ec d

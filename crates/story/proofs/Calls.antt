@@ -16,7 +16,7 @@ use Rattle.choice.proofs.Telling.{clears-or, clears-lt}
 use Rattle.tree.specs.Tree.{parentOf}
 use Rattle.words.specs.Words.{SPLIT-KEY, word}
 use Rattle.sets.specs.Sets.{bit}
-use Rattle.names.specs.Names.{IDLE, TB, B2, F3, L2, KEY, DUMMY, INSERT, DELETE, KEY-LIMIT, numberOf}
+use Rattle.names.specs.Names.{IDLE, TB, B2, F3, L2, KEY, DUMMY, INSERT, DELETE, KEY-LIMIT, numberOf, refuses}
 use Rattle.names.specs.declared.Answer.{Answer}
 use Rattle.names.specs.declared.Answer.the-variants.{Going as GoingOn, Short, Damaged as IsDamaged, NoWorker, KeyAbove, IsBusy, IsIdle, NoKind, NoDummy}
 use Rattle.header.specs.declared.Header.{Header}
@@ -178,7 +178,7 @@ set-back (x ∷ ws) (suc w) = ap (λ (l : List Worker). x ∷ l) (set-back ws w)
 
 -- what a call does to the operation of its worker
 pub data Tale (s : Shared) (Ps : Pasts) (c : Call) (a : Answer) (s′ : Shared) (ev : Event) : Type 0 where
-  refused : s′ .workers ≡ s .workers → ev ≡ nothing → 10 ≤ numberOf a → numberOf a ≤ 17 → s′ .header .count ≡ s .header .count → Tale s Ps c a s′ ev
+  refused : s′ .workers ≡ s .workers → ev ≡ nothing → refuses a ≡ true → s′ .header .count ≡ s .header .count → Tale s Ps c a s′ ev
   begins : (w kind k : ℕ) → c ≡ start w kind k → w < s .header .w → s′ .workers ≡ set (s .workers) w (begun kind k) → ev ≡ nothing → a ≡ GoingOn → s′ .header .count ≡ s .header .count → workerOf s w ≡ idle → Tale s Ps c a s′ ev
   goes :
       (w : ℕ) → c ≡ step w → w < s .header .w → (y : Worker) → s′ .workers ≡ set (s .workers) w y → y .kind ≡ workerOf s w .kind → y .key ≡ workerOf s w .key → workerOf s w .place ≢ IDLE
@@ -258,7 +258,7 @@ module _ (s : Shared) (Ps Qs : Pasts) (c : List ℕ) (inv : InvOf s Ps c) where
 
   -- a refusal other than 11 and 12
   abbrev Plainly : Answer → Type 0
-  Plainly a = (10 ≤ numberOf a) × (numberOf a ≤ 17) × (numberOf a ≢ 11) × (numberOf a ≢ 12)
+  Plainly a = (refuses a ≡ true) × (numberOf a ≢ numberOf Short) × (numberOf a ≢ numberOf IsDamaged)
 
   -- a refused call
   unmade : (cl : Call) (w : ℕ) (a : Answer) (β′ : ℕ → ℕ) → Plainly a → ((v : ℕ) → st.Grows (Ps v) (Qs v)) → Quiet (h .m) (s .value) β′
@@ -267,10 +267,10 @@ module _ (s : Shared) (Ps Qs : Pasts) (c : List ℕ) (inv : InvOf s Ps c) where
     chain = c;
     inv = rw (set-back (s .workers) w) (reread (regrown inv Qs up) quiet);
     change = unmoved;
-    tale = refused (set-back (s .workers) w) refl (pl .0) (pl .1) refl;
-    sound = λ e. pl .3 (ap numberOf e);
-    long = λ e. pl .2 (ap numberOf e);
-    dummies = λ e. omega (arith, pl .1, ap numberOf e);
+    tale = refused (set-back (s .workers) w) refl (pl .0) refl;
+    sound = λ e. pl .2 (ap numberOf e);
+    long = λ e. pl .1 (ap numberOf e);
+    dummies = λ e. true≢false (sym (pl .0) ∙ ap refuses e);
     sizes = (refl, refl, refl);
   }
 
@@ -353,9 +353,9 @@ module _ (s : Shared) (Ps Qs : Pasts) (c : List ℕ) (inv : InvOf s Ps c) where
               inv = reread (g .after) (rw (sized e h .0) (by-laws (h .m) (storedBy e) (s .value) β′ k));
               change = rw (g .none) (g .same);
               tale = ends w refl lt refl (g .none) ne (rw (took-is (b .spot) (workerOf s w) (b .place)) (g .told)) (ty .is);
-              sound = λ q. f (rw q (record { from = omega arith; upTo = omega arith }));
-              long = λ q. f (rw q (record { from = omega arith; upTo = omega arith }));
-              dummies = λ q. omega (arith, g .told .below, ap numberOf q);
+              sound = λ q. true≢false (sym (ap refuses q) ∙ f);
+              long = λ q. true≢false (sym (ap refuses q) ∙ f);
+              dummies = λ q. g .told .dummies (ap numberOf q);
               sizes = (sized e h .0, sized e h .1, sized e h .2);
             }
 
@@ -364,11 +364,11 @@ module _ (s : Shared) (Ps Qs : Pasts) (c : List ℕ) (inv : InvOf s Ps c) where
         → Made s Ps Qs (step w) (done s (step w) .answer) (laid (done s (step w)) β′) (done s (step w) .event)
     unfolding stepVerdict M D pick
     step-done β′ = rw (header-sound inv, long-enough inv)
-        (by-bool (M β′) (leb (h .w) w) (λ _. refuses-step β′ NoWorker (omega arith, omega arith, omega arith, omega arith))
+        (by-bool (M β′) (leb (h .w) w) (λ _. refuses-step β′ NoWorker (refl, omega arith, omega arith))
         (λ b. let lt : w < h .w = leb-false (h .w) w b in
         by-bool (M β′) (workerDamaged h w (workerOf s w)) (λ d. never (fine w lt) d)
         (λ _. by-bool (M β′) (eqb (workerOf s w .place) IDLE)
-        (λ _. refuses-step β′ IsIdle (omega arith, omega arith, omega arith, omega arith))
+        (λ _. refuses-step β′ IsIdle (refl, omega arith, omega arith))
         (λ e. passes β′ lt (eqb-false (workerOf s w .place) IDLE e)))))
 
     pub step-made : (a : Answer) (ev : Event) (s′ : Shared) → Next s (step w) a ev s′ → Made s Ps Qs (step w) a s′ ev
@@ -392,7 +392,7 @@ module _ (s : Shared) (Ps Qs : Pasts) (c : List ℕ) (inv : InvOf s Ps c) where
       refuses-start a pl e = unmade (start w kind k) w a β′ pl (λ v. grows v (ℕ-discrete v w)) quiet
         where
           grows : (v : ℕ) → Dec (v ≡ w) → st.Grows (Ps v) (Qs v)
-          grows v (yes q) = rw q (upr (λ g. omega (arith, pl .0, ap numberOf (sym (ap (λ (d : Done). d .answer) e) ∙ g))))
+          grows v (yes q) = rw q (upr (λ g. true≢false (sym (pl .0) ∙ ap refuses (sym (ap (λ (d : Done). d .answer) e) ∙ g))))
           grows v (no ne) = upo v ne
 
       started : w < h .w → (INSERT ≤ kind) × (kind ≤ DELETE) → k ≤ KEY-LIMIT → workerOf s w .place ≡ IDLE → SM β′ Pass
@@ -422,12 +422,12 @@ module _ (s : Shared) (Ps Qs : Pasts) (c : List ℕ) (inv : InvOf s Ps c) where
       unfolding startVerdict verdict
       by-rows = by-bool (SM β′) (headerDamaged h) (λ d. never (header-sound inv) d)
           (λ _. by-bool (SM β′) (isShort h (length (s .nodes)) (h .m)) (λ d. never (long-enough inv) d)
-          (λ _. by-bool (SM β′) (leb (h .w) w) (λ _. refuses-start NoWorker (omega arith, omega arith, omega arith, omega arith))
-          (λ b. by-bool (SM β′) (ltb kind INSERT || ltb DELETE kind) (λ _. refuses-start NoKind (omega arith, omega arith, omega arith, omega arith))
-          (λ kn. by-bool (SM β′) (ltb KEY-LIMIT k) (λ _. refuses-start KeyAbove (omega arith, omega arith, omega arith, omega arith))
+          (λ _. by-bool (SM β′) (leb (h .w) w) (λ _. refuses-start NoWorker (refl, omega arith, omega arith))
+          (λ b. by-bool (SM β′) (ltb kind INSERT || ltb DELETE kind) (λ _. refuses-start NoKind (refl, omega arith, omega arith))
+          (λ kn. by-bool (SM β′) (ltb KEY-LIMIT k) (λ _. refuses-start KeyAbove (refl, omega arith, omega arith))
           (λ kl. let lt : w < h .w = leb-false (h .w) w b in
           by-bool (SM β′) (workerDamaged h w (workerOf s w)) (λ d. never (fine w lt) d)
-          (λ _. by-bool (SM β′) (not (eqb (workerOf s w .place) IDLE)) (λ _. refuses-start IsBusy (omega arith, omega arith, omega arith, omega arith))
+          (λ _. by-bool (SM β′) (not (eqb (workerOf s w .place) IDLE)) (λ _. refuses-start IsBusy (refl, omega arith, omega arith))
           (λ e. started lt (known kn) (ltb-false KEY-LIMIT k kl) (eqb-true (workerOf s w .place) IDLE (not-false (eqb (workerOf s w .place) IDLE) e)))))))))
 
       pub start-done : Made s Ps Qs (start w kind k) (done s (start w kind k) .answer) (laid (done s (start w kind k)) β′) nothing

@@ -160,7 +160,7 @@ module _ (r : Trace) (i : ℕ) (e : Sum r i) where
         (downs (s .header .count) (ins r i) (outs r i) (additions r i) (removals r i) (outs r (suc i)) (omega (arith, co, q .2)) (bounds r i) e)
 
   sum-suc : Tale s (Past r i) (r .call i) (answerAt r i) (state r (suc i)) ev → Sum r (suc i)
-  sum-suc (refused ew en lo hi hc) = let n = adds-none en in same-as hc (unchanged uncountedIn ew) (unchanged uncountedOut ew) (n .0) (n .1) e
+  sum-suc (refused ew en rf hc) = let n = adds-none en in same-as hc (unchanged uncountedIn ew) (unchanged uncountedOut ew) (n .0) (n .1) e
   sum-suc (begins w kind k q l ew en ea hc xi) =
       let n = adds-none en in
       let b = begun-none kind k in

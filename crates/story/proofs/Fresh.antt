@@ -7,7 +7,7 @@ use mathlib.Core.List.{List, [], _∷_, List·Memᴰ as In, List·Memᴰ·head a
 use Prim.Native.Nat.{ℕ, zero, suc, _*_, _≤_, _<_}
 use native.Mathlib.Omega.{arith}
 use native.Mathlib.Decide.{ℕ-discrete}
-use lib.Dec.{eqb, ltb}
+use lib.Dec.{ltb}
 use lib.ListN.{length, getD, set, length-set}
 use lib.Seq.{getD-set-same, getD-set-other}
 use lib.Pow.{pow-pos}
@@ -21,7 +21,7 @@ use Rattle.split.proofs.Laws.{rev-of-zero}
 use Rattle.words.specs.Words.{SPLIT-KEY, LINK, STANDING, TAKEN}
 use Rattle.sets.specs.Sets.{bit}
 use Rattle.sets.proofs.Laws.{bit-zero}
-use Rattle.names.specs.Names.{numberOf}
+use Rattle.names.specs.Names.{numberOf, goesOn}
 use Rattle.names.specs.declared.Answer.{Answer}
 use Rattle.names.specs.declared.Answer.the-variants.{Going}
 use Rattle.header.specs.declared.Header.{Header}
@@ -198,8 +198,8 @@ module _ (l : Limits) (h : Header) (ws : List Worker) (ns bs : List ℕ) where
   unfolding tooFewFor
   too-few = both (λ (a : Answer). a ≡ Going → ⊥) (limitBroken (freshHeader l)) (λ e. omega (arith, ap numberOf e)) (λ e. omega (arith, ap numberOf e))
 
-  workers : made .out .answer ≡ Going → pick (eqb (numberOf (made .out .answer)) 0) (idled (l .w) ws) ws ≡ filled (l .w) idle ws
-  workers e = pick-true (eqb (numberOf (made .out .answer)) 0) (idled (l .w) ws) ws (rw e refl)
+  workers : made .out .answer ≡ Going → pick (goesOn (made .out .answer)) (idled (l .w) ws) ws ≡ filled (l .w) idle ws
+  workers e = pick-true (goesOn (made .out .answer)) (idled (l .w) ws) ws (rw e refl)
 
   readies : Readies (prepareAt l h ws ns bs)
   unfolding prepareAt Readies

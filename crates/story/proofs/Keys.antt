@@ -85,7 +85,7 @@ limited r i = by (made-at r i (good r i) .tale)
     by-event x a b (removed k) t l = rw (t .3) l
 
     by : Tale (state r i) (Past r i) (r .call i) (answerAt r i) (state r (suc i)) (eventAt r i) → Limited (eventAt r i)
-    by (refused ew en lo hi hc) = rw en tt
+    by (refused ew en rf hc) = rw en tt
     by (begins v kind k q l ew en ea hc xi) = rw en tt
     by (goes v q l y ew ek ey nb tn ea ty) = by-event (workerOf (state r i) v) (tookAt (workerOf (state r i) v)) (tookAt y) (eventAt r i) tn (low v l nb)
     by (ends v q l ew en nb td ty) = rw en tt

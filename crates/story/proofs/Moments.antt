@@ -13,7 +13,8 @@ use lib.Seq.{getD-set-same, getD-set-other}
 use borrow.Author.Tests.{ne-eqb, eq-eqb}
 use Rattle.choice.proofs.Auto.{pick-true, pick-false}
 use Rattle.choice.proofs.Cases.{both}
-use Rattle.names.specs.Names.{IDLE, INSERT, FIND, DELETE, numberOf}
+use Rattle.names.specs.Names.{IDLE, INSERT, FIND, DELETE, refuses}
+use Rattle.names.proofs.Classes.{refused-stops}
 use Rattle.names.specs.declared.Answer.{Answer}
 use Rattle.names.specs.declared.Answer.the-variants.{Going, Yes}
 use Rattle.record.specs.declared.Worker.{Worker}
@@ -33,8 +34,8 @@ pub still : (r : Trace) (i w : ℕ) → startsOf w (r .call i) (answerAt r i) �
     → (began r w (suc i) ≡ began r w i) × (effects r w (suc i) ≡ owns w (r .call i) (eventAt r i) + effects r w i)
 still r i w e = (pick-false _ i (began r w i) e, pick-false _ 0 (owns w (r .call i) (eventAt r i) + effects r w i) e)
 
-no-start : (w : ℕ) (c : Call) (a : Answer) → 10 ≤ numberOf a → startsOf w c a ≡ false
-no-start w (start v kind k) a n = rw (ne-eqb (numberOf a) 0 (λ e. omega arith)) (and-no (eqb v w))
+no-start : (w : ℕ) (c : Call) (a : Answer) → refuses a ≡ true → startsOf w c a ≡ false
+no-start w (start v kind k) a n = rw (refused-stops a n) (and-no (eqb v w))
   where
     and-no : (t : Bool) → (t && false) ≡ false
     and-no true = refl
@@ -190,8 +191,8 @@ module _ (r : Trace) (i w : ℕ) (o : Ops r i w (workerOf (state r i) w)) (lt : 
     own-step t = rw (here-is y ew) (by-event ev refl t)
 
   ops-suc : Tale s (Past r i) (r .call i) (answerAt r i) (state r (suc i)) ev → Ops r (suc i) w (workerOf (state r (suc i)) w)
-  ops-suc (refused ew en lo hi hc) =
-      let k = still r i w (no-start w (r .call i) (answerAt r i) lo) in
+  ops-suc (refused ew en rf hc) =
+      let k = still r i w (no-start w (r .call i) (answerAt r i) rf) in
       subst (λ (y : Worker). Ops r (suc i) w y) (sym (ap (λ (ws : List Worker). getD ws w idle) ew))
       (same-op r i w x (k .0) (k .1 ∙ none-more (ap (owns w (r .call i)) en ∙ owns-nothing w (r .call i))) o)
   ops-suc (begins v kind k ec l ew en ea hc xi) = by (ℕ-discrete v w)

@@ -96,7 +96,7 @@ call-record r i n b = by (made-at r i (good r i) .tale)
     other w y l e = rw e (getD-set-other (state r i .workers) w n y idle (λ q. omega arith))
 
     by : Tale (state r i) (Past r i) (r .call i) (answerAt r i) (state r (suc i)) (eventAt r i) → workerOf (state r (suc i)) n ≡ workerOf (state r i) n
-    by (refused ew en lo hi hc) = ap (λ (ws : List Worker). getD ws n idle) ew
+    by (refused ew en rf hc) = ap (λ (ws : List Worker). getD ws n idle) ew
     by (begins w kind k q l ew en ea hc xi) = other w (begun kind k) l ew
     by (goes w q l y ew ek ey nb tn ea ty) = other w y l ew
     by (ends w q l ew en nb td ty) = other w idle l ew

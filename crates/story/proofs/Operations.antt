@@ -101,7 +101,7 @@ module _ {h : Header} {ws : List Worker} {Ps Qs : Pasts} {w : ℕ} {c m : List �
     no-absent = λ a k. let f : _≡_ {A = ℕ} 0 1 = cc in absurd (omega arith);
     done = λ a k. refl;
     undone = λ a. absurd (a refl);
-    below = omega arith;
+    dummies = omega arith;
   }
 
   -- I1: the key node that is free is taken

@@ -15,7 +15,7 @@ use Rattle.words.specs.Words.{STANDING, LINK, put, linkTo, isTo}
 use Rattle.words.proofs.Laws.{isTo-true}
 use Rattle.names.specs.Names.{F1, F2, F4, L2, B8, D4A, D6, KEY, DUMMY, EXTRA, INSERT, FIND, numberOf}
 use Rattle.names.specs.declared.Answer.{Answer}
-use Rattle.names.specs.declared.Answer.the-variants.{Yes, No}
+use Rattle.names.specs.declared.Answer.the-variants.{Yes, No, NoDummy}
 use Rattle.header.specs.declared.Header.{Header}
 use Rattle.header.specs.Header.{dummiesOf, nodesOf}
 use Rattle.record.specs.declared.Worker.{Worker}
@@ -153,7 +153,7 @@ module _ {h : Header} {ws : List Worker} {Ps Qs : Pasts} {w : ℕ} {c m : List �
               no-absent = λ a k. absent (want-key (x .errand) (x .making) (x .key) (λ r. omega arith));
               done = λ a k. let f : _≡_ {A = ℕ} 0 1 = cc in absurd (omega arith);
               undone = λ a. ne-eqb (x .errand) EXTRA (λ r. omega arith);
-              below = omega arith;
+              dummies = omega arith;
             }))))
         by-aim (forDummy q hs way dn) = past G _ _ (ne-eqb (x .errand) EXTRA (λ r. omega arith))
             (by-bool G (eqb (x .errand) DUMMY || eqb (x .kind) INSERT) (λ t. to-l2 (inl q))
@@ -267,14 +267,14 @@ module _ {h : Header} {ws : List Worker} {Ps Qs : Pasts} {w : ℕ} {c m : List �
         seen-it : x .errand ≢ DUMMY → Present z (x .key)
         seen-it ne = inr (x .cur, x .next, rw (has ∙ want-key (x .errand) (x .making) (x .key) ne) at (b .2 .was live))
 
-        told : (a : Answer) → x .errand ≡ KEY → (a ≡ Yes → x .kind ≡ FIND) → (a ≡ No → x .kind ≡ INSERT) → numberOf a ≤ 18 → Told z tk a
+        told : (a : Answer) → x .errand ≡ KEY → (a ≡ Yes → x .kind ≡ FIND) → (a ≡ No → x .kind ≡ INSERT) → numberOf a ≢ numberOf NoDummy → Told z tk a
         told a q f g l = record {
           yes = λ u k. seen-it (λ r. omega arith);
           no-there = λ u k. seen-it (λ r. omega arith);
           no-absent = λ u k. absurd (k (g u));
           done = λ u k. absurd (k (f u));
           undone = λ u. ne-eqb (x .errand) EXTRA (λ r. omega arith);
-          below = l;
+          dummies = l;
         }
 
         by-aim : AimOf x → G (pick (eqb (x .errand) EXTRA) (Going (to D6 x) Nothing) (pick (eqb (x .errand) KEY)

@@ -4,7 +4,7 @@ use Prim.Native.Nat.{ℕ, zero, suc, _+_}
 use mathlib.Core.Bool.{Bool, false, _&&_}
 use lib.Dec.{eqb}
 use Rattle.choice.specs.Choice.{pick}
-use Rattle.names.specs.Names.{numberOf}
+use Rattle.names.specs.Names.{goesOn}
 use Rattle.names.specs.declared.Answer.{Answer}
 use Rattle.register.specs.Events.{Event, nothing, added, removed}
 use Rattle.story.specs.Run.{Call, start, step}
@@ -12,7 +12,7 @@ use Rattle.story.specs.Trace.{Trace, answerAt, eventAt}
 
 -- the call starts an operation of worker w
 abbrev pub startsOf : ℕ → Call → Answer → Bool
-startsOf w (start v kind key) a = eqb v w && eqb (numberOf a) 0
+startsOf w (start v kind key) a = eqb v w && goesOn a
 startsOf w (step v) a = false
 
 -- the last call before call i that started an operation of worker w

@@ -15,7 +15,7 @@ use Rattle.split.specs.Split.{regular, dummy}
 use Rattle.sets.specs.Sets.{bit, dropped}
 use Rattle.names.specs.Names.{F1, L2, I8, I10, D4B, D6, EXTRA, INSERT, FIND, DELETE, numberOf}
 use Rattle.names.specs.declared.Answer.{Answer}
-use Rattle.names.specs.declared.Answer.the-variants.{Yes, No}
+use Rattle.names.specs.declared.Answer.the-variants.{Yes, No, NoDummy}
 use Rattle.header.specs.declared.Header.{Header}
 use Rattle.header.specs.Header.{nodesOf, busied}
 use Rattle.record.specs.declared.Worker.{Worker}
@@ -101,11 +101,11 @@ pub record ToldBy (m : List ℕ) (P : ℕ → ℕ → ℕ → Type 0) (x : Worke
   pub no-absent : a ≡ No → x .kind ≢ INSERT → Absently m P (x .key)
   pub done : a ≡ Yes → x .kind ≢ FIND → tk ≡ true
   pub undone : a ≢ Yes → tk ≡ false
-  pub below : numberOf a ≤ 18
+  pub dummies : numberOf a ≢ numberOf NoDummy
 
 -- neither yes nor no, of an operation without effect
-pub told-neither : {m : List ℕ} {P : ℕ → ℕ → ℕ → Type 0} {x : Worker} {a : Answer} → a ≢ Yes → a ≢ No → numberOf a ≤ 18 → ToldBy m P x false a
-told-neither ny nn b = record { yes = λ a k. absurd (ny a); no-there = λ a k. absurd (nn a); no-absent = λ a k. absurd (nn a); done = λ a k. absurd (ny a); undone = λ a. refl; below = b }
+pub told-neither : {m : List ℕ} {P : ℕ → ℕ → ℕ → Type 0} {x : Worker} {a : Answer} → a ≢ Yes → a ≢ No → numberOf a ≢ numberOf NoDummy → ToldBy m P x false a
+told-neither ny nn b = record { yes = λ a k. absurd (ny a); no-there = λ a k. absurd (nn a); no-absent = λ a k. absurd (nn a); done = λ a k. absurd (ny a); undone = λ a. refl; dummies = b }
 
 -- a step of worker w: the invariant before it, and what is seen of the past afterwards
 pub record Ctx (h : Header) (ws : List Worker) (Ps Qs : Pasts) (w : ℕ) (c m : List ℕ) (β : ℕ → ℕ) : Type 0 where

@@ -11,9 +11,10 @@ use lib.Dec.{eqb}
 use borrow.Author.Tests.{ne-eqb}
 use Rattle.choice.specs.Choice.{pick}
 use Rattle.choice.proofs.Cases.{by-eq, both}
-use Rattle.names.specs.Names.{IDLE, KEY-LIMIT, numberOf}
+use Rattle.names.specs.Names.{IDLE, KEY-LIMIT}
+use Rattle.names.proofs.Classes.{stopped}
 use Rattle.names.specs.declared.Answer.{Answer}
-use Rattle.names.specs.declared.Answer.the-variants.{Going, Yes, No, Limit, Short, Damaged, NoWorker, KeyAbove, IsBusy, IsIdle, NoKind, NoKeyNode, NoDummy}
+use Rattle.names.specs.declared.Answer.the-variants.{Going, Short, Damaged, NoDummy}
 use Rattle.record.specs.declared.Worker.{Worker}
 use Rattle.register.specs.Chain.{key, link, On, Registered}
 use Rattle.register.specs.Events.{Event, nothing, added, removed, Allowed, Then, adds, removes}
@@ -59,28 +60,13 @@ began-other : (r : Trace) (i v w kind k : ℕ) → v ≢ w → r .call i ≡ sta
 unfolding pick
 began-other r i v w kind k ne e = rw (e, ne-eqb w v (λ q. ne (sym q)))
 
-pub only-going : (a : Answer) → numberOf a ≡ 0 → a ≡ Going
-only-going Going e = refl
-only-going Yes e = absurd (omega arith)
-only-going No e = absurd (omega arith)
-only-going Limit e = absurd (omega arith)
-only-going Short e = absurd (omega arith)
-only-going Damaged e = absurd (omega arith)
-only-going NoWorker e = absurd (omega arith)
-only-going KeyAbove e = absurd (omega arith)
-only-going IsBusy e = absurd (omega arith)
-only-going IsIdle e = absurd (omega arith)
-only-going NoKind e = absurd (omega arith)
-only-going NoKeyNode e = absurd (omega arith)
-only-going NoDummy e = absurd (omega arith)
-
 not-both : (t : Bool) (a b : ℕ) → pick (t && false) a b ≡ b
 unfolding pick
 not-both true a b = refl
 not-both false a b = refl
 
 began-refused : (r : Trace) (i v w kind k : ℕ) → answerAt r i ≢ Going → r .call i ≡ start w kind k → began r v (suc i) ≡ began r v i
-began-refused r i v w kind k ng e = rw (e, ne-eqb (numberOf (answerAt r i)) 0 (λ q. ng (only-going (answerAt r i) q))) (not-both (eqb w v) i (began r v i))
+began-refused r i v w kind k ng e = rw (e, stopped (answerAt r i) ng) (not-both (eqb w v) i (began r v i))
 
 -- a start of a trace answers what the start does
 start-answers : (s : Shared) (w kind k : ℕ) (a : Answer) (ev : Event) (s′ : Shared) → Next s (start w kind k) a ev s′ → a ≡ done s (start w kind k) .answer

@@ -1,5 +1,6 @@
 -- What holds over every run: the statements, each under the sentence that it stands for.
 use Prim.Native.Nat.{ℕ, zero, suc, _+_, _*_, _≤_, _<_}
+use mathlib.Core.Bool.{true}
 use mathlib.Core.List.{List, [], _∷_}
 use mathlib.Core.Logic.{_⊎_, _≢_, _↔_}
 use mathlib.Core.Path.{_≡_}
@@ -7,9 +8,9 @@ use lib.Dec.{eqb}
 use lib.ListN.{getD}
 use Rattle.words.specs.Words.{LARGEST-SET}
 use Rattle.sets.specs.Sets.{bit}
-use Rattle.names.specs.Names.{IDLE, FIND, KEY-LIMIT, numberOf}
+use Rattle.names.specs.Names.{IDLE, FIND, KEY-LIMIT, numberOf, ends}
 use Rattle.names.specs.declared.Answer.{Answer}
-use Rattle.names.specs.declared.Answer.the-variants.{Going, Yes, No, Short, Damaged, NoKeyNode, NoDummy}
+use Rattle.names.specs.declared.Answer.the-variants.{Going, Yes, No, Short, Damaged, NoDummy}
 use Rattle.header.specs.Header.{nodesOf}
 use Rattle.faults.specs.Rows.{IsOneOf}
 use Rattle.record.specs.Worker.{heldKey, heldDummy}
@@ -102,7 +103,7 @@ Own r w b e i = (b < i) × (i ≤ e) × (r .call i ≡ step w)
 
 -- every 1, 2, 18 and 19 is the answer of an operation
 abbrev pub Ends : Answer → Type 0
-Ends a = (a ≡ Yes) ⊎ (a ≡ No) ⊎ (a ≡ NoKeyNode) ⊎ (a ≡ NoDummy)
+Ends a = ends a ≡ true
 
 abbrev pub OfAnOperation : Type 0
 OfAnOperation =

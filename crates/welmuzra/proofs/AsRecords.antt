@@ -2,16 +2,15 @@
 -- Assumes nothing.
 use Prim.Native.Nat.{ℕ, _≤_}
 use mathlib.Core.Path.{_≡_, refl, ap, _∙_}
-use mathlib.Core.Bool.{Bool, true, false, _&&_, false≢true}
+use mathlib.Core.Bool.{Bool, true, false}
 use mathlib.Core.List.{List}
-use lib.Dec.{ltb, leb, eqb}
+use lib.Dec.{ltb}
 use lib.ListN.{length, getD, set}
 use lib.Seq.{set-getD}
-use borrow.Author.Tests.{leb-true, ltb-false}
+use borrow.Author.Tests.{ltb-false}
 use Rattle.choice.specs.Choice.{pick}
 use Rattle.choice.proofs.Cases.{by-bool}
-use Rattle.names.specs.Names.{numberOf}
-use Rattle.names.specs.declared.Answer.{Answer}
+use Rattle.names.specs.Names.{refuses, goesOn}
 use Rattle.header.specs.Header.{limitBroken}
 use Rattle.header.specs.declared.Header.{Header}
 use Rattle.record.specs.declared.Worker.{Worker}
@@ -28,7 +27,7 @@ use Rattle.promises.specs.Unchanged as un
 use Rattle.crew.specs.Crew as crew
 use Rattle.crew.specs.Crew.{left, turnAt, stepAt, startAt, prepareAt}
 use Rattle.welmuzra.specs.Words.{headerWords, recordOf, wordsAt}
-use Rattle.welmuzra.specs.Calls.{Own, own, lent, says, refuses, kept, askWords, readied, prepareWords}
+use Rattle.welmuzra.specs.Calls.{Own, own, lent, says, kept, askWords, readied, prepareWords}
 use Rattle.welmuzra.specs.Promises.{packed, wordsOf, StepAsRecords, StartAsRecords, PrepareAsRecords}
 use Rattle.welmuzra.proofs.Promises.{asked-unchanged}
 use Rattle.welmuzra.proofs.Packed.{record-back, words-packed, stored-packed, few-packed, cleared-packed}
@@ -38,15 +37,6 @@ chosen : {A B : Type 0} (f : A → B) (t : Bool) (x y : B) (a b : A) → x ≡ f
 unfolding pick
 chosen f true x y a b p q = p
 chosen f false x y a b p q = q refl
-
-refused-both : (s t : Bool) → s && t ≡ true → (s ≡ true) × (t ≡ true)
-refused-both true t e = (refl, e)
-refused-both false t e = absurd (false≢true e)
-
-refusal : (a : Answer) → refuses a ≡ true → un.Refusal a
-refusal a e =
-    let b = refused-both (leb 10 (numberOf a)) (leb (numberOf a) 17) e in
-    record { from = leb-true 10 (numberOf a) (b .0); upTo = leb-true (numberOf a) 17 (b .1) }
 
 -- record w of the packed records
 taken : (ws : List Worker) (w : ℕ) → recordOf (wordsAt (packed ws) w) ≡ getD ws w idle
@@ -59,7 +49,7 @@ kept-packed :
 unfolding kept
 kept-packed h ws w o back =
     by-bool (λ (k : Own). k ≡ own (says (o .answer) (o .steps)) (headerWords (o .header)) (packed (set ws w (o .worker)))) (refuses (o .answer))
-    (λ e. let b = back (refusal (o .answer) e) in rw (b .header, b .worker, set-getD ws w idle))
+    (λ e. let b = back e in rw (b .header, b .worker, set-getD ws w idle))
     (λ _. ap (own (says (o .answer) (o .steps)) (headerWords (o .header))) (stored-packed ws w (o .worker)))
 
 -- a call in the words and in the records
@@ -85,7 +75,7 @@ start-as-records h ws w kind key ns bs = ask-packed h ws w (Start kind key) ns b
 abbrev Readied : Limits → Header → List Worker → Kept → Type 0
 Readied l h ws k =
     lent (readied (l .w) (headerWords h) (packed ws) (k .out)) (k .nodes) (k .buckets)
-    ≡ wordsOf (left (crew.ready (k .out)) (pick (eqb (numberOf (k .out .answer)) 0) (crew.idled (l .w) ws) ws) (k .nodes) (k .buckets))
+    ≡ wordsOf (left (crew.ready (k .out)) (pick (goesOn (k .out .answer)) (crew.idled (l .w) ws) ws) (k .nodes) (k .buckets))
 
 -- preparing is refused with 10 or 11, or done
 readied-packed : (l : Limits) (h : Header) (ws : List Worker) (ns bs : List ℕ) → l .w ≤ length ws → Readied l h ws (prepared l h ns bs)

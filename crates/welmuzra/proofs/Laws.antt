@@ -12,6 +12,7 @@ use Rattle.choice.specs.Choice.{pick}
 use borrow.Author.Tests.{ltb-false, le-leb}
 use Rattle.choice.proofs.Auto.{pick-true, pick-false}
 use Rattle.choice.proofs.Cases.{both}
+use Rattle.names.specs.Names.{refuses}
 use Rattle.names.specs.declared.Answer.{Answer}
 use Rattle.header.specs.Header.{limitBroken}
 use Rattle.header.specs.declared.Header.{Header}
@@ -25,7 +26,7 @@ use Rattle.register.specs.Step.{refusedWith}
 use Rattle.register.proofs.Laws.{past-asked}
 use Rattle.crew.specs.One.{noneOf}
 use Rattle.crew.proofs.Laws.{none-few, none-enough}
-use Rattle.welmuzra.specs.Calls.{Own, own, Lent, lent, says, refuses, turnOf, lacksRecords, kept, askWords}
+use Rattle.welmuzra.specs.Calls.{Own, own, Lent, lent, says, turnOf, lacksRecords, kept, askWords}
 use Rattle.welmuzra.specs.Words.{RECORD, headerOf, markWord, recordOf, lacks, wordsAt, laid}
 
 -- record w of a table that has it is the one that its fifteen words are

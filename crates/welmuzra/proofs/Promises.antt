@@ -7,10 +7,11 @@ use mathlib.Core.Bool.{true}
 use mathlib.Core.List.{List}
 use lib.ListN.{length, getD, take, drop}
 use lib.Seq.{getD-take, getD-drop}
-use borrow.Author.Tests.{le-leb, lt-leb, lt-ltb, le-ltb}
+use borrow.Author.Tests.{lt-leb, lt-ltb, le-ltb}
 use Rattle.choice.proofs.Auto.{pick-true, pick-false}
 use Rattle.choice.proofs.Cases.{by-bool, both}
-use Rattle.names.specs.Names.{D6, numberOf}
+use Rattle.names.specs.Names.{D6, refuses}
+use Rattle.names.proofs.Classes.{one-number}
 use Rattle.names.specs.declared.Answer.{Answer}
 use Rattle.names.specs.declared.Answer.the-variants.{Damaged}
 use Rattle.header.specs.declared.Header.{Header}
@@ -29,15 +30,12 @@ use Rattle.promises.specs.Unchanged as un
 use Rattle.promises.proofs.Unchanged.{start-unchanged, step-unchanged, prepare-unchanged}
 use Rattle.crew.specs.Crew.{turn}
 use Rattle.welmuzra.specs.Words.{RECORD, zeros, headerOf, placeOf, recordOf, lacks, wordsAt}
-use Rattle.welmuzra.specs.Calls.{Own, own, Lent, lent, says, refuses, kept, turnOf, lacksRecords, askWords, readied, prepareWords}
+use Rattle.welmuzra.specs.Calls.{Own, own, Lent, lent, says, kept, turnOf, lacksRecords, askWords, readied, prepareWords}
 use Rattle.welmuzra.specs.Promises.{Refused, AskUnchanged, StartWritesNeither, PrepareUnchanged, NoRecord}
 
--- the test of a refusal, and the refusal
-refused-test : (a : Answer) → 10 ≤ numberOf a → numberOf a ≤ 17 → refuses a ≡ true
-refused-test a l u = rw (le-leb 10 (numberOf a) l, le-leb (numberOf a) 17 u)
-
+-- a number is one answer's alone
 refusal : (a : Answer) (steps : ℕ) → Refused (says a steps) → un.Refusal a
-refusal a steps r = record { from = r .from; upTo = r .upTo }
+refusal a steps r = ap refuses (one-number a (r .of) (r .number)) ∙ r .refusal
 
 -- header and records are as they came where the answer refuses
 kept-answer : (hs rs : List ℕ) (w : ℕ) (o : Outcome) → kept hs rs w o .reply ≡ says (o .answer) (o .steps)
@@ -46,7 +44,7 @@ kept-answer hs rs w o = by-bool (λ (k : Own). k .reply ≡ says (o .answer) (o 
 
 kept-refused : (hs rs : List ℕ) (w : ℕ) (o : Outcome) → un.Refusal (o .answer) → kept hs rs w o ≡ own (says (o .answer) (o .steps)) hs rs
 unfolding kept
-kept-refused hs rs w o r = pick-true _ _ _ (refused-test (o .answer) (r .from) (r .upTo))
+kept-refused hs rs w o r = pick-true _ _ _ r
 
 -- the register's own call, where it is refused
 pub asked-unchanged : (t : Turn) (a : Ask) (ns bs : List ℕ) → un.Refusal (askedOf t a ns bs .out .answer) → un.Untouched t ns bs (askedOf t a ns bs)
@@ -77,7 +75,7 @@ readied-answer w hs rs o = by-bool (λ (k : Own). k .reply ≡ says (o .answer) 
 
 readied-refused : (w : ℕ) (hs rs : List ℕ) (o : Prepared) → un.Refusal (o .answer) → readied w hs rs o ≡ own (says (o .answer) 0) hs rs
 unfolding readied
-readied-refused w hs rs o r = pick-true _ _ _ (refused-test (o .answer) (r .from) (r .upTo))
+readied-refused w hs rs o r = pick-true _ _ _ r
 
 pub prepare-words-unchanged : PrepareUnchanged
 unfolding prepareWords
@@ -114,4 +112,4 @@ no-record hs rs w ns bs sound enough long is-worker bad =
     let v = pick-false _ _ _ sound ∙ pick-false _ _ _ long ∙ pick-false _ _ _ (lt-leb (h .w) w is-worker) ∙ pick-true _ _ _ d in
     pick-false _ _ _ (le-ltb (length rs) (h .w * RECORD) enough) ∙
     ap (λ (v : Verdict). let a = steppedBy (turn h w x) ns bs v in lent (kept hs rs w (a .out)) (a .nodes) (a .buckets)) v ∙
-    ap (λ (k : Own). lent k ns bs) (kept-refused hs rs w (refusedWith Damaged (turn h w x)) (record { from = omega arith; upTo = omega arith }))
+    ap (λ (k : Own). lent k ns bs) (kept-refused hs rs w (refusedWith Damaged (turn h w x)) refl)

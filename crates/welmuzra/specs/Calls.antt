@@ -1,12 +1,12 @@
 -- The calls over words: the register's own call on the header and the record that the words are, and the words of what it hands back.
 use Prim.Native.Nat.{ℕ, _*_}
-use mathlib.Core.Bool.{Bool, _&&_}
+use mathlib.Core.Bool.{Bool}
 use mathlib.Core.List.{List}
-use lib.Dec.{ltb, leb}
+use lib.Dec.{ltb}
 use lib.ListN.{length}
 use Rattle.choice.specs.Choice.{pick}
 use Rattle.scans.specs.Scans.{cleared}
-use Rattle.names.specs.Names.{numberOf}
+use Rattle.names.specs.Names.{numberOf, refuses}
 use Rattle.names.specs.declared.Answer.{Answer}
 use Rattle.prepare.specs.declared.Limits.{Limits}
 use Rattle.writes.specs.declared.Outcome.{Outcome}
@@ -41,10 +41,6 @@ lent o ns bs = record { left = o; nodes = ns; buckets = bs }
 -- the paper's number of an answer, with so many steps
 abbrev pub says : Answer → ℕ → Reply
 says a steps = record { answer = numberOf a; steps = steps }
-
--- 10 to 17 refuse, and then no word changes; 18 and 19 end an operation
-abbrev pub refuses : Answer → Bool
-refuses a = leb 10 (numberOf a) && leb (numberOf a) 17
 
 -- ---- one worker's call
 -- header and record w are stored; refused, the words are as they came

@@ -1,9 +1,11 @@
 -- What follows for the calls over words: nothing is lost on the way to words and back, a refusal changes no word, words that are no record are damaged, and over the words of records the calls are those of the lent table of records.
 use Prim.Native.Nat.{ℕ, _*_, _+_, _≤_, _<_}
-use mathlib.Core.Bool.{false}
+use mathlib.Core.Bool.{true, false}
 use mathlib.Core.List.{List, [], _∷_, _++_}
 use mathlib.Core.Path.{_≡_}
 use lib.ListN.{length, getD}
+use Rattle.names.specs.Names.{numberOf, refuses}
+use Rattle.names.specs.declared.Answer.{Answer}
 use Rattle.names.specs.declared.Answer.the-variants.{Damaged}
 use Rattle.header.specs.declared.Header.{Header}
 use Rattle.header.specs.Header.{headerDamaged}
@@ -35,10 +37,11 @@ WordsBack =
     → let ws = fifteen place errand kind key wanted making size start prev cur next mark held dummy steps in
     recordWords (recordOf ws) ≡ ws
 
--- ---- "all the others from 10 on change no word"
+-- ---- "all the others from 10 on change no word": the number is that of an answer that refuses
 pub record Refused (r : Reply) : Type 0 where
-  pub from : 10 ≤ r .answer
-  pub upTo : r .answer ≤ 17
+  pub of : Answer
+  pub refusal : refuses of ≡ true
+  pub number : r .answer ≡ numberOf of
 
 abbrev pub AskUnchanged : Type 0
 AskUnchanged =

@@ -3,9 +3,10 @@ ghost use mathlib.Core.Path.{_≡_};
 ghost use mathlib.Core.Bool.{false};
 ghost use Prim.Native.Nat.{_+_, _*_, _≤_};
 ghost use lib.ListN.{length};
+ghost use Rattle.names.specs.Names.{refuses};
 ghost use Rattle.crew.specs.One.{noneOf};
 ghost use Rattle.welmuzra.specs.Words.{RECORD, headerOf, headerWords, placeOf, recordOf, recordWords, wordsAt, stored};
-ghost use Rattle.welmuzra.specs.Calls.{own, lent, lacksRecords, says, refuses, kept, askWords, stepWords, startWords, limits, readied, prepareWords};
+ghost use Rattle.welmuzra.specs.Calls.{own, lent, lacksRecords, says, kept, askWords, stepWords, startWords, limits, readied, prepareWords};
 use header::Header;
 use names::Answer;
 use names::place;
@@ -149,7 +150,7 @@ fn keep(header: &mut [u32; 7], records: &mut [u32], w: u32, out: Outcome) -> Rep
 {
     let answer = out.answer;
     let number = answer.number();
-    if (10 <= number) & (number <= 17) {
+    if answer.refuses() {
         return Reply {
             answer: number,
             steps: out.steps,
@@ -229,7 +230,7 @@ fn ready(header: &mut [u32; 7], records: &mut [u32], w: u32, out: Prepared) -> R
 {
     let answer = out.answer;
     let number = answer.number();
-    if (10 <= number) & (number <= 17) {
+    if answer.refuses() {
         return Reply {
             answer: number,
             steps: 0,

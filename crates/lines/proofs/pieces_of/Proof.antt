@@ -13,9 +13,6 @@ register-pieces-requires c κs = tt
 enum-known-line-2 : tie.Need-enum-known-line-2
 enum-known-line-2 c = search needs
 
-number-requires : tie.Need-number-requires
-number-requires c κs = tt
-
 ended-pieces-requires : tie.Need-ended-pieces-requires
 ended-pieces-requires c κs = tt
 
@@ -35,9 +32,7 @@ returns : tie.Need-returns
 returns c = rw (c .before .before .line .given .1) (c .register-pieces .ensures)
 
 returns-2 : tie.Need-returns-2
-returns-2 c =
-    let n = c .before .number in
-    rw (c .before .before .before .line2 .given .1, ← (n .ensures)) (c .ended-pieces .ensures)
+returns-2 c = rw (c .before .before .line2 .given .1) (c .ended-pieces .ensures)
 
 returns-3 : tie.Need-returns-3
 returns-3 c = rw (c .before .before .line3 .given .1) (c .refused-pieces .ensures)
@@ -52,7 +47,6 @@ pieces-of-spec =
     enum-known-line
     register-pieces-requires
     enum-known-line-2
-    number-requires
     ended-pieces-requires
     enum-known-line-3
     refused-pieces-requires

@@ -1,9 +1,10 @@
--- The answer's number says whether the run goes on; then what is still to be printed leads to the whole, and each turn lays one line of it.
+-- The answer's class says whether the run goes on; then what is still to be printed leads to the whole, and each turn lays one line of it.
 -- Assumes nothing.
 use mathlib.Core.Path.{_≡_, refl, sym, _∙_}
 use native.Mathlib.Omega.{arith}
 use lib.ListN.{length}
 use borrow.Author.Needs.{needs}
+use borrow.Author.Tests.{not-true, not-false}
 use Rattle.crew.specs.Crew.{left}
 use Rattle.crew.proofs.Laws.{turns-left}
 use Rattle.replay.specs.Replay.{followed}
@@ -14,12 +15,12 @@ use Rattle.replay.proofs.begin.Statement.{statement}
 use Rattle.replay.proofs.begin.Tie as tie
 
 abbrev Inv-loop : tie.InvT-loop
-Inv-loop schedule next nodes₀ buckets₀ out₀ bank₀ number place₀ offset₀ turns₀ nodes buckets out bank place offset turns =
+Inv-loop schedule next nodes₀ buckets₀ out₀ bank₀ place₀ offset₀ turns₀ nodes buckets out bank place offset turns =
     (length nodes ≡ length nodes₀) × (length buckets ≡ length buckets₀) × (length out ≡ length out₀)
     × Leads out place (followed schedule turns offset (left (bank .called) (bank .workers) nodes buckets)) out₀ place₀ (followed schedule turns₀ offset₀ (left (bank₀ .called) (bank₀ .workers) nodes₀ buckets₀))
 
 abbrev μ-loop : tie.MeasureT-loop
-μ-loop schedule next nodes₀ buckets₀ out₀ bank₀ number place₀ offset₀ turns₀ nodes buckets out bank place offset turns = turns
+μ-loop schedule next nodes₀ buckets₀ out₀ bank₀ place₀ offset₀ turns₀ nodes buckets out bank place offset turns = turns
 
 body-of-requires : tie.Need-body-of-requires Inv-loop μ-loop
 body-of-requires c κs = tt
@@ -29,6 +30,9 @@ ready-requires c κs = tt
 
 answer-of-requires : tie.Need-answer-of-requires Inv-loop μ-loop
 answer-of-requires c κs = tt
+
+goes-on-requires : tie.Need-goes-on-requires Inv-loop μ-loop
+goes-on-requires c κs = tt
 
 number-requires : tie.Need-number-requires Inv-loop μ-loop
 number-requires c κs = tt
@@ -47,9 +51,10 @@ same-length-3 c = search needs
 
 returns : tie.Need-returns Inv-loop μ-loop
 returns c =
-    let a = c .before .before .before .before .before .before .before .before .before .before .before .before .before .before .before .before .before .before .before .args in
-    let r = c .before .before .before .before .before .before .before .before .before .before .before .ready in
-    laid-as (begun-refused (a .schedule .now) (a .next) _ _ (left (r .result .called) (r .result .workers) (r .last .1 .0) (r .last .1 .1 .0)) _ _ _ (r .ensures) (c .before .before .before .before .before .before .before .before .before .before .before .before .before .before .body-of .ensures) (c .before .before .before .before .before .before .answer-of .ensures) (c .before .before .before .before .before .number .ensures) (c .before .before .before .before .if1 .taken)) (c .before .before .put-refused .ensures)
+    let a = c .before .before .before .before .before .before .before .before .before .before .before .before .before .before .before .before .before .before .before .before .args in
+    let r = c .before .before .before .before .before .before .before .before .before .before .before .before .ready in
+    let t = c .before .before .before .before .before .before .goes-on in
+    laid-as (rw (c .before .before .before .number .ensures) (begun-refused (a .schedule .now) (a .next) _ (left (r .result .called) (r .result .workers) (r .last .1 .0) (r .last .1 .1 .0)) _ _ _ (r .ensures) (c .before .before .before .before .before .before .before .before .before .before .before .before .before .before .before .body-of .ensures) (c .before .before .before .before .before .before .before .answer-of .ensures) (sym (t .ensures) ∙ not-true (t .result) (c .before .before .before .before .before .if1 .taken)))) (c .before .before .put-refused .ensures)
 
 put-first-requires : tie.Need-put-first-requires Inv-loop μ-loop
 put-first-requires c κs = tt
@@ -125,7 +130,8 @@ returns-2 c =
     let l = c .before .before .before .before .before .before .before .before .before .before .before .loop in
     let test = rw (c .before .before .before .before .before .before .before .before .before .before .is-played .ensures) at (c .before .before .before .before .before .before .before .before .before .if2 .left) in
     let rest = l .inv .3 _ _ (laid-as (sym (followed-stop (a .schedule .now) (l .turns) (l .offset) (left (l .bank .called) (l .bank .workers) (l .nodes) (l .buckets)) test)) (laid-on (c .before .before .before .before .before .before .before .put-stop .ensures) (c .before .before .put-last .ensures))) in
-    laid-as (begun-on (a .schedule .now) (a .next) _ _ (left (r .result .called) (r .result .workers) (r .last .1 .0) (r .last .1 .1 .0)) _ _ _ (r .ensures) (c .before .before .before .before .before .before .before .before .before .before .before .before .before .before .before .before .before .before .before .before .before .before .before .before .before .before .body-of .ensures) (c .before .before .before .before .before .before .before .before .before .before .before .before .before .before .before .before .before .before .answer-of .ensures) (c .before .before .before .before .before .before .before .before .before .before .before .before .before .before .before .before .before .number .ensures) (c .before .before .before .before .before .before .before .before .before .before .before .before .before .before .before .before .if1 .left)) (laid-on (c .before .before .before .before .before .before .before .before .before .before .before .before .before .before .put-first .ensures) rest)
+    let t = c .before .before .before .before .before .before .before .before .before .before .before .before .before .before .before .before .before .goes-on in
+    laid-as (begun-on (a .schedule .now) (a .next) _ (left (r .result .called) (r .result .workers) (r .last .1 .0) (r .last .1 .1 .0)) _ _ _ (r .ensures) (c .before .before .before .before .before .before .before .before .before .before .before .before .before .before .before .before .before .before .before .before .before .before .before .before .before .before .body-of .ensures) (c .before .before .before .before .before .before .before .before .before .before .before .before .before .before .before .before .before .before .answer-of .ensures) (sym (t .ensures) ∙ not-false (t .result) (c .before .before .before .before .before .before .before .before .before .before .before .before .before .before .before .before .if1 .left))) (laid-on (c .before .before .before .before .before .before .before .before .before .before .before .before .before .before .put-first .ensures) rest)
 
 pub begin-spec : {M : Type 1} → statement M
 begin-spec =
@@ -136,6 +142,7 @@ begin-spec =
     body-of-requires
     ready-requires
     answer-of-requires
+    goes-on-requires
     number-requires
     put-refused-requires
     same-length

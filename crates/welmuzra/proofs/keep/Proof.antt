@@ -1,5 +1,6 @@
 -- The test of a refusal says which way the definition goes, and the words are those of what was handed in.
 -- Assumes nothing.
+use mathlib.Core.Path.{sym, _∙_}
 use borrow.Author.Needs.{needs}
 use Rattle.choice.proofs.Auto.{then-is, else-is}
 use Rattle.welmuzra.specs.Calls.{kept}
@@ -9,9 +10,12 @@ use Rattle.welmuzra.proofs.keep.Tie as tie
 number-requires : tie.Need-number-requires
 number-requires c κs = tt
 
+refuses-requires : tie.Need-refuses-requires
+refuses-requires c κs = tt
+
 returns : tie.Need-returns
 unfolding kept
-returns c = then-is _ _ _ _ (rw (c .before .number .ensures) at (c .if1 .taken)) (rw (c .before .number .ensures))
+returns c = then-is _ _ _ _ (sym (c .before .refuses .ensures) ∙ c .if1 .taken) (rw (c .before .before .number .ensures))
 
 header-words-requires : tie.Need-header-words-requires
 header-words-requires c κs = tt
@@ -25,8 +29,8 @@ same-length c = search needs
 returns-2 : tie.Need-returns-2
 unfolding kept
 returns-2 c =
-    else-is _ _ _ _ (rw (c .before .before .before .before .before .before .number .ensures) at (c .before .before .before .before .before .if1 .left))
-    (rw (c .before .before .before .before .before .before .number .ensures, c .before .before .before .before .header-words .ensures, c .before .before .store-record .ensures))
+    else-is _ _ _ _ (sym (c .before .before .before .before .before .before .refuses .ensures) ∙ c .before .before .before .before .before .if1 .left)
+    (rw (c .before .before .before .before .before .before .before .number .ensures, c .before .before .before .before .header-words .ensures, c .before .before .store-record .ensures))
 
 pub keep-spec : {M : Type 1} → statement M
-keep-spec = tie.close (tie.spec number-requires returns header-words-requires store-record-requires same-length returns-2)
+keep-spec = tie.close (tie.spec number-requires refuses-requires returns header-words-requires store-record-requires same-length returns-2)

@@ -1,6 +1,7 @@
 -- The test of a refusal says which way the definition goes; where it is passed there are at most 16 records to clear.
 -- Assumes nothing.
 use native.Mathlib.Omega.{arith}
+use mathlib.Core.Path.{sym, _∙_}
 use borrow.Author.Needs.{needs}
 use Rattle.choice.proofs.Auto.{then-is, else-is}
 use Rattle.welmuzra.specs.Calls.{readied}
@@ -10,15 +11,18 @@ use Rattle.welmuzra.proofs.ready.Tie as tie
 number-requires : tie.Need-number-requires
 number-requires c κs = tt
 
+refuses-requires : tie.Need-refuses-requires
+refuses-requires c κs = tt
+
 returns : tie.Need-returns
 unfolding readied
-returns c = then-is _ _ _ _ (rw (c .before .number .ensures) at (c .if1 .taken)) (rw (c .before .number .ensures))
+returns c = then-is _ _ _ _ (sym (c .before .refuses .ensures) ∙ c .if1 .taken) (rw (c .before .before .number .ensures))
 
 header-words-requires : tie.Need-header-words-requires
 header-words-requires c κs = tt
 
 mul-clear : tie.Need-mul-clear
-mul-clear c = omega (arith, c .before .before .before .before .before .pre (rw (c .before .before .before .number .ensures) at (c .before .before .if1 .left)))
+mul-clear c = omega (arith, c .before .before .before .before .before .before .pre (sym (c .before .before .before .refuses .ensures) ∙ c .before .before .if1 .left))
 
 clear-requires : tie.Need-clear-requires
 clear-requires c κs = tt
@@ -29,8 +33,8 @@ same-length c = search needs
 returns-2 : tie.Need-returns-2
 unfolding readied
 returns-2 c =
-    else-is _ _ _ _ (rw (c .before .before .before .before .before .before .number .ensures) at (c .before .before .before .before .before .if1 .left))
-    (rw (c .before .before .before .before .before .before .number .ensures, c .before .before .before .before .header-words .ensures, c .before .before .clear .ensures))
+    else-is _ _ _ _ (sym (c .before .before .before .before .before .before .refuses .ensures) ∙ c .before .before .before .before .before .if1 .left)
+    (rw (c .before .before .before .before .before .before .before .number .ensures, c .before .before .before .before .header-words .ensures, c .before .before .clear .ensures))
 
 pub ready-spec : {M : Type 1} → statement M
-ready-spec = tie.close (tie.spec number-requires returns header-words-requires mul-clear clear-requires same-length returns-2)
+ready-spec = tie.close (tie.spec number-requires refuses-requires returns header-words-requires mul-clear clear-requires same-length returns-2)

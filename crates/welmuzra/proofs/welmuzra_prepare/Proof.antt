@@ -4,7 +4,8 @@ use mathlib.Core.Path.{sym, ap, _∙_}
 use denote.Ref.{now}
 use Rattle.choice.proofs.Auto.{then-is, else-is}
 use Rattle.prepare.specs.Prepare.{Kept}
-use Rattle.welmuzra.specs.Calls.{lent, refuses, readied, prepareWords}
+use Rattle.names.specs.Names.{refuses}
+use Rattle.welmuzra.specs.Calls.{lent, readied, prepareWords}
 use Rattle.welmuzra.proofs.Laws.{prepared-small}
 use borrow.Author.Needs.{needs}
 use Rattle.welmuzra.proofs.welmuzra_prepare.Statement.{statement}
