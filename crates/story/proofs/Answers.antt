@@ -19,9 +19,9 @@ use Rattle.header.specs.Header.{nodesOf, dummiesOf}
 use Rattle.record.specs.declared.Worker.{Worker}
 use Rattle.register.specs.Chain.{key, Registered}
 use Rattle.register.specs.Events.{Event, nothing, added, removed, Says, yes-insert, yes-delete, yes-find, no-insert, no-find, no-delete}
-use Rattle.story.specs.Run.{Call, start, step}
-use Rattle.story.specs.Story.{AnswersAreFromThePaper, Ends}
-use Rattle.story.specs.Trace.{Shared, workerOf, Trace, state, answerAt, eventAt, Operation, Own, OfAnOperation, TrueAtAMoment, OwnEvent, OwnEffect}
+use Rattle.story.specs.Shared.{Call, start, step, Shared, workerOf}
+use Rattle.story.specs.Story.{AnswersAreFromThePaper, Ends, Operation, Own, OfAnOperation, TrueAtAMoment, OwnEvent, OwnEffect}
+use Rattle.story.specs.Trace.{Trace, state, answerAt, eventAt, told}
 use Rattle.story.proofs.Spans.{startsOf, began, owns, effects}
 use Rattle.story.proofs.Chain.{on-in}
 use Rattle.story.proofs.Facts.{Fact}
@@ -125,7 +125,7 @@ starts-means w (step v) a e = absurd (true≢false (sym e))
 starts-so : (r : Trace) (w b kind k : ℕ) → r .call b ≡ start w kind k → answerAt r b ≡ Going → startsOf w (r .call b) (answerAt r b) ≡ true
 starts-so r w b kind k q g = rw (g, q, eq-eqb w w refl) refl
 
-began-is : (r : Trace) (w kind k b e : ℕ) → Operation r w kind k b e → began r w e ≡ b
+began-is : (r : Trace) (w kind k b e : ℕ) → Operation (told r) w kind k b e → began r w e ≡ b
 began-is r w kind k b zero o = absurd (omega (arith, o .before))
 began-is r w kind k b (suc i) o = by (ℕ-discrete b i) (startsOf w (r .call i) (answerAt r i)) refl (λ l. began-is r w kind k b i (record { before = l; started = o .started; going = o .going; last = λ j kind k p q. o .last j kind k p (omega arith) }))
   where
@@ -145,7 +145,7 @@ no-later r w (suc i) j b u = by (ℕ-discrete j i) (startsOf w (r .call i) (answ
     by (no ne) false st ih = ih (rw (pick-false _ i (began r w i) st) at b) (omega (arith, ne))
 
 -- the operation of a busy worker
-operation : (r : Trace) (i w : ℕ) → w < state r i .header .w → workerOf (state r i) w .place ≢ IDLE → Operation r w (workerOf (state r i) w .kind) (workerOf (state r i) w .key) (began r w i) i
+operation : (r : Trace) (i w : ℕ) → w < state r i .header .w → workerOf (state r i) w .place ≢ IDLE → Operation (told r) w (workerOf (state r i) w .kind) (workerOf (state r i) w .key) (began r w i) i
 operation r i w lt nb =
     let p = ops r i w lt .busy nb in
     record {
@@ -159,7 +159,7 @@ same-start : {w a b c d : ℕ} {q : Call} → q ≡ start w a b → q ≡ start 
 same-start p q = (cc, cc)
 
 -- ---- every ended answer is that of an operation
-pub of-an-operation : OfAnOperation
+pub of-an-operation : (r : Trace) → OfAnOperation (told r)
 of-an-operation r e w ec d = let n = ending r e w ec d in (_, _, _, operation r e w (n .real) (n .busy))
 
 pub answers-are-from-the-paper : AnswersAreFromThePaper
@@ -178,7 +178,7 @@ answers-are-from-the-paper NoKeyNode = inr (inr (inr (inr (inr (inr (inr (inr (i
 answers-are-from-the-paper NoDummy = inr (inr (inr (inr (inr (inr (inr (inr (inr (inr (inr (inr (inl refl))))))))))))
 
 -- ---- an event is its own operation's
-pub own-event : OwnEvent
+pub own-event : (r : Trace) → OwnEvent (told r)
 own-event r i ne = by (made-at r i (good r i) .tale)
   where
     mine : (x : Worker) (a b : Bool) (ev : Event) → ev ≢ nothing → Turned x a b ev → Says (x .key) ⊥ (x .kind) Yes ev
@@ -187,7 +187,7 @@ own-event r i ne = by (made-at r i (good r i) .tale)
     mine x a b (removed k) n t = says-removed refl (t .2) (t .3)
 
     by : Tale (state r i) (Past r i) (r .call i) (answerAt r i) (state r (suc i)) (eventAt r i)
-        → (w : ℕ) × (kind : ℕ) × (k : ℕ) × (b : ℕ) × Operation r w kind k b i × Own r w b i i × Says k ⊥ kind Yes (eventAt r i)
+        → (w : ℕ) × (kind : ℕ) × (k : ℕ) × (b : ℕ) × Operation (told r) w kind k b i × Own (told r) w b i i × Says k ⊥ kind Yes (eventAt r i)
     by (refused ew en rf hc) = absurd (ne en)
     by (begins v kind k q l ew en ea hc xi) = absurd (ne en)
     by (goes v q l y ew ek ey nb tn ea ty) =
@@ -196,19 +196,19 @@ own-event r i ne = by (made-at r i (good r i) .tale)
     by (ends v q l ew en nb td ty) = absurd (ne en)
 
 -- ---- an operation and its one effect
-module _ (r : Trace) (w kind k b e : ℕ) (o : Operation r w kind k b e) where
+module _ (r : Trace) (w kind k b e : ℕ) (o : Operation (told r) w kind k b e) where
   start-is : began r w e ≡ b
   start-is = began-is r w kind k b e o
 
   -- up to a call of its own it is the same operation
-  until : (i : ℕ) → Own r w b e i → Operation r w kind k b i
+  until : (i : ℕ) → Own (told r) w b e i → Operation (told r) w kind k b i
   until i m = record { before = m .0; started = o .started; going = o .going; last = λ j kind k p q. o .last j kind k p (omega (arith, m .1)) }
 
   -- no two of its calls have an event
-  apart : (i j : ℕ) → Own r w b e i → Own r w b e j → eventAt r i ≢ nothing → eventAt r j ≢ nothing → i < j → ⊥
+  apart : (i j : ℕ) → Own (told r) w b e i → Own (told r) w b e j → eventAt r i ≢ nothing → eventAt r j ≢ nothing → i < j → ⊥
   apart i j m n p q l = p (quiet-before r w j (first-event r j w (n .2) q) i (rw (began-is r w kind k b j (until j n)) (m .0)) l (m .2))
 
-  once : (i j : ℕ) → Own r w b e i → Own r w b e j → eventAt r i ≢ nothing → eventAt r j ≢ nothing → i ≡ j
+  once : (i j : ℕ) → Own (told r) w b e i → Own (told r) w b e j → eventAt r i ≢ nothing → eventAt r j ≢ nothing → i ≡ j
   once i j m n p q = by (decLt i j) (decLt j i)
     where
       by : Dec (i < j) → Dec (j < i) → i ≡ j
@@ -220,11 +220,11 @@ module _ (r : Trace) (w kind k b e : ℕ) (o : Operation r w kind k b e) where
     same : (kind ≡ workerOf (state r e) w .kind) × (k ≡ workerOf (state r e) w .key)
     same = same-start (o .started) (rw start-is at (op r e w d .started))
 
-    own-end : Own r w b e e
+    own-end : Own (told r) w b e e
     own-end = (o .before, omega arith, ec)
 
     -- where it had no event, none of its calls has one
-    quiet : effects r w e ≡ 0 → (i : ℕ) → Own r w b e i → eventAt r i ≡ nothing
+    quiet : effects r w e ≡ 0 → (i : ℕ) → Own (told r) w b e i → eventAt r i ≡ nothing
     quiet z i m = by (ℕ-discrete i e)
       where
         by : Dec (i ≡ e) → eventAt r i ≡ nothing
@@ -232,13 +232,13 @@ module _ (r : Trace) (w kind k b e : ℕ) (o : Operation r w kind k b e) where
         by (no ne) = quiet-before r w e z i (rw start-is (m .0)) (omega (arith, ne, m .1)) (m .2)
 
     -- yes to an insert or a delete: it took effect
-    took : answerAt r e ≡ Yes → kind ≢ FIND → (i : ℕ) × Own r w b e i × Says k ⊥ kind Yes (eventAt r i)
+    took : answerAt r e ≡ Yes → kind ≢ FIND → (i : ℕ) × Own (told r) w b e i × Says k ⊥ kind Yes (eventAt r i)
     took y nf = ⊎-elim (λ q. had (q .2)) (λ q. absurd (true≢false (sym (d .told .done y (λ f. nf (same .0 ∙ f))) ∙ q .0))) (op r e w d .flag)
       where
-        had : EventIn r e w (workerOf (state r e) w .kind) (workerOf (state r e) w .key) → (i : ℕ) × Own r w b e i × Says k ⊥ kind Yes (eventAt r i)
+        had : EventIn r e w (workerOf (state r e) w .kind) (workerOf (state r e) w .key) → (i : ℕ) × Own (told r) w b e i × Says k ⊥ kind Yes (eventAt r i)
         had q = (q .call, (rw (← start-is) (q .from), omega (arith, q .upto), q .own), rw (same .0, same .1) (q .what))
 
-pub own-effect : OwnEffect
+pub own-effect : (r : Trace) → OwnEffect (told r)
 own-effect r w kind k b e o = record {
   once = once r w kind k b e o;
   some = λ ec y nf. let q = took r w kind k b e o ec (ending r e w ec (ap names.ends y)) y nf in (q .0, q .1, says-some (q .2));
@@ -261,14 +261,14 @@ says-own yes-insert = yes-insert
 says-own yes-delete = yes-delete
 says-own (yes-find n) = absurd n
 
-module _ (r : Trace) (w kind k b e : ℕ) (o : Operation r w kind k b e) (ec : r .call e ≡ step w) where
+module _ (r : Trace) (w kind k b e : ℕ) (o : Operation (told r) w kind k b e) (ec : r .call e ≡ step w) where
   abbrev a : Answer
   a = answerAt r e
 
   abbrev M : Type 0
-  M = (i : ℕ) × Own r w b e i × Says k (Registered (state r i .nodes) k) kind a (eventAt r i)
+  M = (i : ℕ) × Own (told r) w b e i × Says k (Registered (state r i .nodes) k) kind a (eventAt r i)
 
-  own-past : {n nx v : ℕ} (p : Saw r e w n nx v) → Own r w b e (p .call)
+  own-past : {n nx v : ℕ} (p : Saw r e w n nx v) → Own (told r) w b e (p .call)
   own-past p = (rw (start-is r w kind k b e o) at (p .from), omega (arith, p .upto), p .own)
 
   there : {n nx : ℕ} (p : Saw r e w n nx (regular k)) → Registered (state r (p .call) .nodes) k
@@ -282,7 +282,7 @@ module _ (r : Trace) (w kind k b e : ℕ) (o : Operation r w kind k b e) (ec : r
 
   -- the moment is this call, or an own call before
   module _ (d : End r e w) (z : effects r w e ≡ 0) where
-    still-quiet : (i : ℕ) → Own r w b e i → eventAt r i ≡ nothing
+    still-quiet : (i : ℕ) → Own (told r) w b e i → eventAt r i ≡ nothing
     still-quiet = quiet r w kind k b e o ec d z
 
     present : ((kind ≡ FIND) × (a ≡ Yes)) ⊎ ((kind ≡ INSERT) × (a ≡ No)) → Presently (state r e .nodes) (Past r e w) k → M
@@ -332,5 +332,5 @@ module _ (r : Trace) (w kind k b e : ℕ) (o : Operation r w kind k b e) (ec : r
       by (no ni) (yes f) = else ni (inl f)
       by (no ni) (no nf) = else ni (inr (omega (arith, ni, nf, known .0, known .1)))
 
-pub true-at-a-moment : TrueAtAMoment
+pub true-at-a-moment : (r : Trace) → TrueAtAMoment (told r)
 true-at-a-moment r w kind k b e o ec d = moment r w kind k b e o ec d

@@ -29,21 +29,20 @@ use Rattle.acts.specs.declared.Move.{Move}
 use Rattle.acts.specs.declared.Move.the-variants.{Damaged, Going, Ended}
 use Rattle.moves.specs.Moves as moves
 use Rattle.moves.specs.Moves.{decidedAt, decided}
-use Rattle.writes.specs.declared.Stores.the-variants.{None}
-use Rattle.writes.specs.Writes.{headerAfter, storedBy}
+use Rattle.writes.specs.Writes.{none, headerAfter, storedBy}
 use Rattle.writes.specs.Carry.{storeOf}
 use Rattle.names.specs.declared.Verdict.{Verdict}
 use Rattle.names.specs.declared.Verdict.the-variants.{Pass, Refused}
-use Rattle.register.specs.Step.{refusedWith, askedBucket, wordGiven, wordWith, splitFor, seenWith}
+use Rattle.register.specs.Step.{refusedWith, askedAt, askedBucket, wordGiven, wordWith, splitFor, seenWith}
 use Rattle.header.specs.Header.{isShort}
 use Rattle.register.specs.Calls.{startVerdict, stepVerdict}
 use Rattle.crew.proofs.Laws.{sized}
-use Rattle.crew.specs.Crew.{turn}
+use Rattle.crew.specs.One.{turn}
 use Rattle.promises.proofs.Shape.{Final, effect-at}
 use Rattle.register.specs.Chain.{key, link}
 use Rattle.register.specs.Events.{Event, nothing, added, removed, written, taking}
-use Rattle.story.specs.Run.{Call, start, step}
-use Rattle.story.specs.Trace.{Quiet, Keeps, Shared, workerOf, turnOf, seenAt, Done, doneBy, startDone, moveDone, stepDone, done, Called, Paused, Next, calls, pause}
+use Rattle.story.specs.Shared.{Call, start, step, Shared, workerOf}
+use Rattle.story.specs.Trace.{Quiet, Keeps, turnOf, seenAt, allThere, Done, doneBy, startDone, moveDone, stepDone, done, Called, Paused, Next, calls, pause}
 use Rattle.story.proofs.Registers.{Change, unmoved}
 use Rattle.story.proofs.Facts.{Spot, i1, sz, tb, b2, b4, f1, f2, f3, f4, l2, b8, i8, i9, i10, d4a, d4b, d6, number, At, keyOf, dummyOf, Busy, Fact}
 use Rattle.story.proofs.Stable as st
@@ -67,11 +66,11 @@ module _ {h : Header} {ws : List Worker} {Ps Qs : Pasts} {w : ℕ} {c m : List �
   v = β (askedBucket (turn h w x))
 
   asked-tb : x .place ≡ TB → v ≡ β (x .wanted)
-  unfolding askedBucket pick
+  unfolding askedBucket askedAt pick
   asked-tb e = rw e refl
 
   asked-b2 : x .place ≡ B2 → v ≡ β (parentOf (x .making))
-  unfolding askedBucket pick
+  unfolding askedBucket askedAt pick
   asked-b2 e = rw e refl
 
   abbrev sees : ℕ → Seen
@@ -262,7 +261,7 @@ module _ (s : Shared) (Ps Qs : Pasts) (c : List ℕ) (inv : InvOf s Ps c) where
 
   -- a refused call
   unmade : (cl : Call) (w : ℕ) (a : Answer) (β′ : ℕ → ℕ) → Plainly a → ((v : ℕ) → st.Grows (Ps v) (Qs v)) → Quiet (h .m) (s .value) β′
-      → Made s Ps Qs cl a (laid (doneBy s w (refusedWith a (turnOf s w)) (s .nodes) None nothing) β′) nothing
+      → Made s Ps Qs cl a (laid (doneBy s w (refusedWith a (turnOf s w)) (s .nodes) none nothing) β′) nothing
   unmade cl w a β′ pl up quiet = record {
     chain = c;
     inv = rw (set-back (s .workers) w) (reread (regrown inv Qs up) quiet);
@@ -413,7 +412,7 @@ module _ (s : Shared) (Ps Qs : Pasts) (c : List ℕ) (inv : InvOf s Ps c) where
           by-fact (inr b) = absurd (not-idle (b .spot) (sym (b .place) ∙ rest))
 
       verdict : Verdict
-      verdict = startVerdict (turnOf s w) kind k (length (s .nodes)) (h .m)
+      verdict = startVerdict (turnOf s w) kind k (allThere s)
 
       known : (ltb kind INSERT || ltb DELETE kind) ≡ false → (INSERT ≤ kind) × (kind ≤ DELETE)
       known e = clears-or (clears-lt kind INSERT) (clears-lt DELETE kind) .sound e
@@ -421,7 +420,7 @@ module _ (s : Shared) (Ps Qs : Pasts) (c : List ℕ) (inv : InvOf s Ps c) where
       by-rows : SM β′ verdict
       unfolding startVerdict verdict
       by-rows = by-bool (SM β′) (headerDamaged h) (λ d. never (header-sound inv) d)
-          (λ _. by-bool (SM β′) (isShort h (length (s .nodes)) (h .m)) (λ d. never (long-enough inv) d)
+          (λ _. by-bool (SM β′) (isShort h (allThere s)) (λ d. never (long-enough inv) d)
           (λ _. by-bool (SM β′) (leb (h .w) w) (λ _. refuses-start NoWorker (refl, omega arith, omega arith))
           (λ b. by-bool (SM β′) (ltb kind INSERT || ltb DELETE kind) (λ _. refuses-start NoKind (refl, omega arith, omega arith))
           (λ kn. by-bool (SM β′) (ltb KEY-LIMIT k) (λ _. refuses-start KeyAbove (refl, omega arith, omega arith))

@@ -16,7 +16,9 @@ use Rattle.header.specs.Header.{countUp, countDown}
 use Rattle.record.specs.declared.Worker.{Worker}
 use Rattle.record.specs.Worker.{idle, fresh, begun}
 use Rattle.register.specs.Events.{Event, nothing, adds, removes, all, uncountedIn, uncountedOut, sumOf}
-use Rattle.story.specs.Trace.{Shared, workerOf, First, Trace, state, answerAt, eventAt, Count}
+use Rattle.story.specs.Shared.{Shared, workerOf}
+use Rattle.story.specs.Story.{Count}
+use Rattle.story.specs.Trace.{First, Trace, state, answerAt, eventAt, told}
 use Rattle.story.proofs.Tally.{Tally, none}
 use Rattle.story.proofs.Calls.{Tale, refused, begins, goes, ends}
 use Rattle.story.proofs.Theorem.{Past, good, made-at}
@@ -189,7 +191,7 @@ sum r zero = (rw z (omega arith), inl (omega (arith, z, a, b)))
     b = sum-idle uncountedOut none (state r 0 .workers) (state r 0 .header .w) rest
 sum r (suc i) = sum-suc r i (sum r i) (made-at r i (good r i) .tale)
 
-pub count : Count
+pub count : (r : Trace) → Count (told r)
 count r i =
     let e = sum r i in
     let b = bounds r i in

@@ -24,8 +24,7 @@ use Rattle.header.specs.Header.{dummiesOf, nodesOf, busied}
 use Rattle.header.specs.Rows.{PowerFromTo}
 use Rattle.record.specs.declared.Worker.{Worker}
 use Rattle.record.specs.Worker.{fresh, idle, begun, heldKey, heldDummy}
-use Rattle.writes.specs.declared.Stores.{Stores}
-use Rattle.writes.specs.declared.Stores.the-variants.{None, Into}
+use Rattle.writes.specs.Writes.{Stores, none, into}
 use Rattle.register.specs.Chain.{key, link, standing}
 use Rattle.story.specs.Trace.{Quiet, Keeps}
 use Rattle.story.proofs.Memory
@@ -68,25 +67,25 @@ module _ (h : Header) (z n b v : ℕ) (c m : List ℕ) (P : ℕ → ℕ → ℕ 
 
 -- ---- the values once a node is stored in a bucket
 abbrev pub valued : Stores → (ℕ → ℕ) → ℕ → ℕ
-valued None β = β
-valued (Into b n) β = λ i. pick (eqb i b) n (β i)
+valued none β = β
+valued (into b n) β = λ i. pick (eqb i b) n (β i)
 
-valued-same : (b n : ℕ) (β : ℕ → ℕ) → valued (Into b n) β b ≡ n
+valued-same : (b n : ℕ) (β : ℕ → ℕ) → valued (into b n) β b ≡ n
 valued-same b n β = pick-true (eqb b b) n (β b) (eq-eqb b b refl)
 
-valued-other : (b n : ℕ) (β : ℕ → ℕ) (i : ℕ) → i ≢ b → valued (Into b n) β i ≡ β i
+valued-other : (b n : ℕ) (β : ℕ → ℕ) (i : ℕ) → i ≢ b → valued (into b n) β i ≡ β i
 valued-other b n β i ne = pick-false (eqb i b) n (β i) (ne-eqb i b ne)
 
 -- these values keep the laws, and whatever keeps them has these values
 pub keeps-valued : (M : ℕ) (st : Stores) (β : ℕ → ℕ) → Keeps M st β (valued st β)
-keeps-valued M None β = λ i l. refl
-keeps-valued M (Into b n) β = (λ l. valued-same b n β, λ i l ne. valued-other b n β i ne)
+keeps-valued M none β = λ i l. refl
+keeps-valued M (into b n) β = (λ l. valued-same b n β, λ i l ne. valued-other b n β i ne)
 
 pub by-laws : (M : ℕ) (st : Stores) (β β′ : ℕ → ℕ) → Keeps M st β β′ → Quiet M (valued st β) β′
-by-laws M None β β′ k = k
-by-laws M (Into b n) β β′ k = λ i l. by i l (ℕ-discrete i b)
+by-laws M none β β′ k = k
+by-laws M (into b n) β β′ k = λ i l. by i l (ℕ-discrete i b)
   where
-    by : (i : ℕ) → i < M → Dec (i ≡ b) → β′ i ≡ valued (Into b n) β i
+    by : (i : ℕ) → i < M → Dec (i ≡ b) → β′ i ≡ valued (into b n) β i
     by i l (yes e) = rw e (k .0 (rw e at l) ∙ sym (valued-same b n β))
     by i l (no ne) = k .1 i l ne ∙ sym (valued-other b n β i ne)
 
@@ -145,7 +144,7 @@ module _ {h : Header} {ws : List Worker} {Ps : Pasts} {w k d : ℕ} {c m : List 
   }
 
   -- B8: a bucket is set to its dummy
-  pub stored : (b n : ℕ) → b < h .m → n ≢ 0 → Root (dummiesOf h) c m b n → Core h ws Ps w k d c m (valued (Into b n) β)
+  pub stored : (b n : ℕ) → b < h .m → n ≢ 0 → Root (dummiesOf h) c m b n → Core h ws Ps w k d c m (valued (into b n) β)
   stored b n lt ne o = record {
     limits = core .limits;
     size = core .size;
@@ -167,14 +166,14 @@ module _ {h : Header} {ws : List Worker} {Ps : Pasts} {w k d : ℕ} {c m : List 
     root = λ i l. root i l (ℕ-discrete i b);
   }
     where
-      here : valued (Into b n) β b ≡ n
+      here : valued (into b n) β b ≡ n
       here = valued-same b n β
 
-      first : Dec (0 ≡ b) → valued (Into b n) β 0 ≢ 0
-      first (yes e) z = ne (sym here ∙ ap (valued (Into b n) β) (sym e) ∙ z)
+      first : Dec (0 ≡ b) → valued (into b n) β 0 ≢ 0
+      first (yes e) z = ne (sym here ∙ ap (valued (into b n) β) (sym e) ∙ z)
       first (no q) z = core .root₀ (sym (valued-other b n β 0 q) ∙ z)
 
-      root : (i : ℕ) → i < h .m → Dec (i ≡ b) → valued (Into b n) β i ≢ 0 → Root (dummiesOf h) c m i (valued (Into b n) β i)
+      root : (i : ℕ) → i < h .m → Dec (i ≡ b) → valued (into b n) β i ≢ 0 → Root (dummiesOf h) c m i (valued (into b n) β i)
       root i l (yes e) z = rw (e, here) o
       root i l (no q) z = rw (valued-other b n β i q) (core .root i l (rw (valued-other b n β i q) at z))
 

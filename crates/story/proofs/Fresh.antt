@@ -31,31 +31,35 @@ use Rattle.record.specs.declared.Worker.{Worker}
 use Rattle.record.specs.Worker.{idle}
 use Rattle.prepare.specs.declared.Limits.{Limits}
 use Rattle.names.specs.declared.Verdict.{Verdict}
-use Rattle.prepare.specs.Prepare.{Kept, freshHeader, prepareVerdict, tooFewFor, preparedBy, prepared}
+use Rattle.prepare.specs.Prepare.{freshHeader, prepareVerdict, tooFewFor, preparedBy, prepared}
 use Rattle.header.specs.Header.{isShort}
-use Rattle.crew.specs.Crew.{Left, filled, idled, prepareAt}
+use Rattle.words.specs.Words.{Tables, lengths, Left}
+use Rattle.acts.specs.declared.Called.{Called}
+use Rattle.crew.specs.declared.Ready.{Ready as Ready′}
+use Rattle.crew.specs.Crew.{filled, prepareOne, made as filledBy, prepareAt}
 use Rattle.promises.proofs.Fresh.{prepare-fresh}
 use Rattle.register.specs.Chain.{key, link, standing}
+use Rattle.story.specs.Shared.{Shared, workerOf}
+use Rattle.story.specs.Trace.{First}
 use Rattle.story.specs.Run.{State, stateOf}
-use Rattle.story.specs.Trace.{Shared, workerOf, First}
 use Rattle.story.proofs.Facts.{Root}
 use Rattle.story.proofs.Hands.{idle-key, idle-dummy}
 use Rattle.story.proofs.Core.{Pasts, recordOf, Inv}
 use Rattle.story.proofs.Calls.{InvOf}
 
 -- ---- what preparing asked for
-module _ (l : Limits) (h : Header) (ns bs : List ℕ) where
+module _ (l : Limits) (h : Header) (ts : Tables) where
   Asked : Verdict → Type 0
-  Asked v = preparedBy l h ns bs v .out .answer ≡ Going → (limitBroken (freshHeader l) ≡ false) × (isShort (freshHeader l) (length ns) (length bs) ≡ false)
+  Asked v = preparedBy l h ts v .out .answer ≡ Going → (limitBroken (freshHeader l) ≡ false) × (isShort (freshHeader l) (lengths ts) ≡ false)
 
-  pub asked : prepared l h ns bs .out .answer ≡ Going → (limitBroken (freshHeader l) ≡ false) × (isShort (freshHeader l) (length ns) (length bs) ≡ false)
+  pub asked : prepared l h ts .out .answer ≡ Going → (limitBroken (freshHeader l) ≡ false) × (isShort (freshHeader l) (lengths ts) ≡ false)
   unfolding prepared prepareVerdict Asked
   asked = by-bool Asked (limitBroken (freshHeader l)) (λ _ e. absurd (omega (arith, ap numberOf e)))
-      (λ a. by-bool Asked (isShort (freshHeader l) (length ns) (length bs)) (λ _ e. absurd (omega (arith, ap numberOf e))) (λ b _. (a, b)))
+      (λ a. by-bool Asked (isShort (freshHeader l) (lengths ts)) (λ _ e. absurd (omega (arith, ap numberOf e))) (λ b _. (a, b)))
 
-  pub short : isShort (freshHeader l) (length ns) (length bs) ≡ false → (nodesOf (freshHeader l) * 3 ≤ length ns) × (l .m ≤ length bs)
+  pub short : isShort (freshHeader l) (lengths ts) ≡ false → (nodesOf (freshHeader l) * 3 ≤ length (ts .nodes)) × (l .m ≤ length (ts .buckets))
   unfolding isShort
-  short e = clears-or (clears-lt (length ns) (nodesOf (freshHeader l) * 3)) (clears-lt (length bs) (l .m)) .sound e
+  short e = clears-or (clears-lt (length (ts .nodes)) (nodesOf (freshHeader l) * 3)) (clears-lt (length (ts .buckets)) (l .m)) .sound e
 
 -- ---- the records
 filled-length : (n : ℕ) (x : Worker) (ws : List Worker) → length (filled n x ws) ≡ length ws
@@ -179,47 +183,49 @@ module _ (l : Limits) (s : Shared) (f : First l s) (Ps : Pasts) where
   fresh-inv = rw (f .header) fresh-core
 
 -- ---- a fresh state: what preparing left
-pub record Ready (l : Limits) (k : Kept) (s : State) : Type 0 where
+pub record Ready (l : Limits) (k : Left Called) (s : State) : Type 0 where
   pub header : s .header ≡ freshHeader l
-  pub nodes : s .nodes ≡ k .nodes
-  pub buckets : s .buckets ≡ k .buckets
+  pub tables : s .tables ≡ k .tables
   pub going : k .out .answer ≡ Going
   pub enough : l .w ≤ length (s .workers)
   pub rest : (v : ℕ) → v < l .w → recordOf (s .workers) v ≡ idle
 
-module _ (l : Limits) (h : Header) (ws : List Worker) (ns bs : List ℕ) where
-  abbrev made : Kept
-  made = prepared l h ns bs
+module _ (l : Limits) (h : Header) (ws : List Worker) (ts : Tables) where
+  abbrev made : Left Called
+  made = prepared l h ts
 
-  Readies : Left → Type 0
-  Readies a = a .called .answer ≡ Going → Ready l made (stateOf a)
+  -- what is left once the records that are wanted are filled
+  abbrev state : Left Ready′ → State
+  state p = stateOf (filledBy ws p)
+
+  Readies : Left Ready′ → Type 0
+  Readies p = p .out .called .answer ≡ Going → Ready l made (state p)
 
   too-few : tooFewFor l ≡ Going → ⊥
   unfolding tooFewFor
   too-few = both (λ (a : Answer). a ≡ Going → ⊥) (limitBroken (freshHeader l)) (λ e. omega (arith, ap numberOf e)) (λ e. omega (arith, ap numberOf e))
 
-  workers : made .out .answer ≡ Going → pick (goesOn (made .out .answer)) (idled (l .w) ws) ws ≡ filled (l .w) idle ws
-  workers e = pick-true (goesOn (made .out .answer)) (idled (l .w) ws) ws (rw e refl)
+  workers : made .out .answer ≡ Going → filled (pick (goesOn (made .out .answer)) (l .w) 0) idle ws ≡ filled (l .w) idle ws
+  workers e = ap (λ (n : ℕ). filled n idle ws) (pick-true (goesOn (made .out .answer)) (l .w) 0 (rw e refl))
 
-  readies : Readies (prepareAt l h ws ns bs)
-  unfolding prepareAt Readies
+  readies : Readies (prepareOne l (length ws) h ts)
+  unfolding prepareOne Readies
   readies = by-bool Readies (ltb (length ws) (l .w)) (λ _ e. absurd (too-few e)) (λ t e. record {
-    header = prepare-fresh l h ns bs e .header;
-    nodes = refl;
-    buckets = refl;
+    header = prepare-fresh l h ts e .header;
+    tables = refl;
     going = e;
     enough = rw (workers e, filled-length (l .w) idle ws) (ltb-false (length ws) (l .w) t);
     rest = λ v lt. rw (workers e) (filled-at (l .w) idle ws v lt (ltb-false (length ws) (l .w) t));
   })
 
   -- a record past W stays
-  Leaves : ℕ → Left → Type 0
-  Leaves v a = a .called .answer ≡ Going → recordOf (a .workers) v ≡ recordOf ws v
+  Leaves : ℕ → Left Ready′ → Type 0
+  Leaves v p = p .out .called .answer ≡ Going → recordOf (state p .workers) v ≡ recordOf ws v
 
-  pub leaves : (v : ℕ) → l .w ≤ v → prepareAt l h ws ns bs .called .answer ≡ Going → recordOf (prepareAt l h ws ns bs .workers) v ≡ recordOf ws v
-  unfolding prepareAt Leaves
-  leaves v b = by-bool (Leaves v) (ltb (length ws) (l .w)) (λ _ e. refl) (λ t e. rw (workers e) (filled-past (l .w) idle ws v b))
+  pub leaves : (v : ℕ) → l .w ≤ v → prepareAt l h ws ts .out .called .answer ≡ Going → recordOf (prepareAt l h ws ts .out .workers) v ≡ recordOf ws v
+  unfolding prepareOne Leaves
+  leaves v b = by-bool (Leaves v) (ltb (length ws) (l .w)) (λ _ e. absurd (too-few e)) (λ t e. rw (workers e) (filled-past (l .w) idle ws v b))
 
-  pub is-ready : prepareAt l h ws ns bs .called .answer ≡ Going → Ready l made (stateOf (prepareAt l h ws ns bs))
+  pub is-ready : prepareAt l h ws ts .out .called .answer ≡ Going → Ready l made (stateOf (prepareAt l h ws ts))
   unfolding Readies
   is-ready = readies

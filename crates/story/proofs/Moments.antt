@@ -21,8 +21,8 @@ use Rattle.record.specs.declared.Worker.{Worker}
 use Rattle.record.specs.Worker.{idle, fresh, begun}
 use Rattle.register.specs.Chain.{key}
 use Rattle.register.specs.Events.{Event, nothing, added, removed, Says, yes-insert, yes-delete, yes-find}
-use Rattle.story.specs.Run.{Call, start, step}
-use Rattle.story.specs.Trace.{Shared, workerOf, First, Trace, state, answerAt, eventAt}
+use Rattle.story.specs.Shared.{Call, start, step, Shared, workerOf}
+use Rattle.story.specs.Trace.{First, Trace, state, answerAt, eventAt}
 use Rattle.story.proofs.Spans.{startsOf, began, owns, effects}
 use Rattle.story.proofs.Steps.{tookAt, Turned}
 use Rattle.story.proofs.Calls.{Tale, refused, begins, goes, ends}

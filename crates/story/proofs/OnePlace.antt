@@ -13,8 +13,9 @@ use Rattle.header.specs.Header.{nodesOf, dummiesOf}
 use Rattle.record.specs.declared.Worker.{Worker}
 use Rattle.record.specs.Worker.{idle, begun, heldKey, heldDummy}
 use Rattle.register.specs.Chain.{standing, On}
-use Rattle.story.specs.Story.{Where, free, chained, held, waiting}
-use Rattle.story.specs.Trace.{Shared, workerOf, Trace, state, answerAt, eventAt, At, OnePlace, PastKept}
+use Rattle.story.specs.Shared.{Shared, workerOf}
+use Rattle.story.specs.Story.{Where, free, chained, held, waiting, At, OnePlace, RecordsKept}
+use Rattle.story.specs.Trace.{Trace, state, answerAt, eventAt, told}
 use Rattle.story.proofs.Chain.{on-in, in-on}
 use Rattle.story.proofs.Facts.{Held}
 use Rattle.story.proofs.Core.{Pasts, fact-key, fact-dummy}
@@ -85,7 +86,7 @@ module _ (s : Shared) (Ps : Pasts) (c : List ℕ) (inv : InvOf s Ps c) (n : ℕ)
   pub exactly-one : (p : Where) × At s n p × ((q : Where) → At s n q → q ≡ p)
   exactly-one = let k = somewhere in (k .0, k .1, λ q b. same-place (k .0) q (k .1) b)
 
-pub one-place : OnePlace
+pub one-place : (r : Trace) → OnePlace (told r)
 one-place r i n low high = let g = good r i in exactly-one (state r i) (Past r i) (g .chain) (g .inv) n low high
 
 -- a call of worker w changes no record but that of w, which is below W
@@ -101,9 +102,9 @@ call-record r i n b = by (made-at r i (good r i) .tale)
     by (goes w q l y ew ek ey nb tn ea ty) = other w y l ew
     by (ends w q l ew en nb td ty) = other w idle l ew
 
-pub past-kept : PastKept
-past-kept r zero n b = refl
-past-kept r (suc i) n b =
+pub records-kept : (r : Trace) → RecordsKept (told r)
+records-kept r zero n b = refl
+records-kept r (suc i) n b =
     let s = made-at r i (good r i) .sizes in
     let b′ : state r i .header .w ≤ n = omega arith in
-    call-record r i n b′ ∙ past-kept r i n b′
+    call-record r i n b′ ∙ records-kept r i n b′

@@ -14,12 +14,13 @@ use Rattle.names.specs.Names.{IDLE}
 use Rattle.names.specs.declared.Answer.{Answer}
 use Rattle.names.specs.declared.Answer.the-variants.{Going}
 use Rattle.register.specs.Events.{Event, nothing}
-use Rattle.story.specs.Run.{Call, start, step, Run, state}
 use Rattle.record.specs.Worker.{ticked}
-use Rattle.story.specs.Trace.{Shared, workerOf, done, Next, calls, pause, Trace}
+use Rattle.story.specs.Shared.{Call, start, step, Shared, workerOf}
+use Rattle.story.specs.Trace.{done, Next, calls, pause, Trace}
+use Rattle.story.specs.Run.{Run, state, shared}
 use Rattle.story.proofs.Ends.{valued, keeps-valued}
 use Rattle.story.proofs.Calls.{laid}
-use Rattle.story.proofs.Runs.{shared, first}
+use Rattle.story.proofs.Runs.{first}
 
 record Gone : Type 0 where
   answer : Answer

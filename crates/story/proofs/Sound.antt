@@ -41,7 +41,7 @@ module _ {h : Header} {ws : List Worker} {Ps : Pasts} {w k d : ℕ} {c m : List 
       far b = omega (arith, bit-far (b .0) (h .busy) (omega (arith, core .few, pow-mono {i = h .w} {j = b .0} (b .1))), b .2)
 
   -- nor 11, where the buckets are all there
-  pub long-enough : isShort h (length m) (h .m) ≡ false
+  pub long-enough : isShort h (record { nodes = length m; buckets = h .m }) ≡ false
   unfolding isShort
   long-enough = none-of (ltb (length m) (nodesOf h * 3)) (ltb (h .m) (h .m)) (le-ltb (length m) (nodesOf h * 3) (core .of-nodes .size)) (le-ltb (h .m) (h .m) (omega arith))
 

@@ -7,7 +7,7 @@ use Rattle.choice.specs.Choice.{pick}
 use Rattle.names.specs.Names.{goesOn}
 use Rattle.names.specs.declared.Answer.{Answer}
 use Rattle.register.specs.Events.{Event, nothing, added, removed}
-use Rattle.story.specs.Run.{Call, start, step}
+use Rattle.story.specs.Shared.{Call, start, step}
 use Rattle.story.specs.Trace.{Trace, answerAt, eventAt}
 
 -- the call starts an operation of worker w

@@ -28,7 +28,7 @@ use Rattle.moves.specs.Moves.{badLink, wantOf, on}
 use Rattle.writes.specs.Writes.{nodesAfter, headerAfter, storedBy}
 use Rattle.writes.specs.Carry.{closedBy}
 use Rattle.register.specs.Step.{closed}
-use Rattle.crew.specs.Crew.{turn}
+use Rattle.crew.specs.One.{turn}
 use Rattle.register.specs.Chain.{key, link, after, Registered}
 use Rattle.register.specs.Events.{Event, nothing, added, removed, written}
 use Rattle.story.proofs.Registers.{Same, Change, unmoved}

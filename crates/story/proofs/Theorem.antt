@@ -18,9 +18,9 @@ use Rattle.names.specs.declared.Answer.the-variants.{Going, Short, Damaged, NoD
 use Rattle.record.specs.declared.Worker.{Worker}
 use Rattle.register.specs.Chain.{key, link, On, Registered}
 use Rattle.register.specs.Events.{Event, nothing, added, removed, Allowed, Then, adds, removes}
-use Rattle.story.specs.Run.{Call, start, step}
-use Rattle.story.specs.Story.{tallied}
-use Rattle.story.specs.Trace.{Shared, workerOf, done, answer, Called, Next, calls, pause, Trace, state, answerAt, eventAt, NeverDamaged, DummiesSuffice, Ledger, StepLaw, BitsAgree}
+use Rattle.story.specs.Shared.{Call, start, step, Shared, workerOf}
+use Rattle.story.specs.Story.{tallied, NeverDamaged, DummiesSuffice, Ledger, StepLaw, BitsAgree}
+use Rattle.story.specs.Trace.{done, answer, Called, Next, calls, pause, Trace, state, answerAt, eventAt, told}
 use Rattle.story.proofs.Spans.{startsOf, began}
 use Rattle.story.proofs.Chain.{on-in, in-on}
 use Rattle.story.proofs.Stable.{Grows}
@@ -125,10 +125,10 @@ any-call s Ps c inv (start w kind key) =
     let k = start-done s Ps Anything c inv w kind key (λ v ne a b n p. tt) (λ ng a b n p. tt) (s .value) (λ i l. refl) in
     (k .sound, k .long, k .dummies)
 
-pub never-damaged : NeverDamaged
+pub never-damaged : (r : Trace) → NeverDamaged (λ (i : ℕ). answer (state r i))
 never-damaged r i c = let g = good r i in let q = any-call (state r i) (Past r i) (g .chain) (g .inv) c in (q .0, q .1)
 
-pub dummies-suffice : DummiesSuffice
+pub dummies-suffice : (r : Trace) → DummiesSuffice (λ (i : ℕ). answer (state r i))
 dummies-suffice r i c = let g = good r i in any-call (state r i) (Past r i) (g .chain) (g .inv) c .2
 
 -- ---- registered keys change by events alone
@@ -149,7 +149,7 @@ then-is a b (added k) c j l = by (ℕ-discrete j k)
     by (no ne) = let o = c .others j l ne in (λ q. inr (o .already q), ⊎-elim (λ e. absurd (ne e)) (o .still))
 then-is a b (removed k) c j l = (λ q. let ne : j ≢ k = λ e. c .after (rw e at q) in (ne, c .others j l ne .already q), λ q. c .others j l (q .0) .still (q .1))
 
-pub step-law : StepLaw
+pub step-law : (r : Trace) → StepLaw (told r)
 step-law r i = let c = changes r i in (allowed (state r i .nodes) (state r (suc i) .nodes) (eventAt r i) c, then-is (state r i .nodes) (state r (suc i) .nodes) (eventAt r i) c)
 
 -- the ledger of a key after one event
@@ -191,10 +191,10 @@ none-yet r k g =
     is-one : {n : ℕ} → In n (1 ∷ []) → n ≡ 1
     is-one (here e) = e
 
-pub ledger : Ledger
+pub ledger : (r : Trace) → Ledger (told r)
 ledger r zero k l = inr (none-yet r k, refl)
 ledger r (suc i) k l = balance (state r i .nodes) (state r (suc i) .nodes) (eventAt r i) k (tallied (adds (eqb k)) (eventAt r) i) (tallied (removes (eqb k)) (eventAt r) i) l (changes r i) (ledger r i k l)
 
 -- ---- busy bits
-pub bits-agree : BitsAgree
+pub bits-agree : (r : Trace) → BitsAgree (told r)
 bits-agree r i w lt = ⊎-elim (λ a. (λ _. a .1, λ _. a .0)) (λ a. (λ e. absurd (a .0 e), λ e. absurd (omega (arith, a .1, e)))) (good r i .inv .bits w lt (omega arith))

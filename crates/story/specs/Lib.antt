@@ -1,3 +1,4 @@
-pub mod Run
+pub mod Shared
 pub mod Story
 pub mod Trace
+pub mod Run

@@ -223,7 +223,14 @@ pub extern "C" fn welmuzra_start(
 ) -> Reply
     ensures { λ r. ⌜ left (own r (now (header .exit)) (now (records .exit))) (tables (now (nodes .exit)) (now (buckets .exit))) ≡ callWords (now (header .entry)) (now (records .entry)) w (Start kind key) (tables (now (nodes .entry)) (now (buckets .entry))) ⌝ }
 {
-    serve(header, records, nodes, buckets, w, Call::Start { kind, key })
+    serve(
+        header,
+        records,
+        nodes,
+        buckets,
+        w,
+        Call::Start { kind, key },
+    )
 }
 
 // What preparing hands back goes into the words, unless it is refused.
