@@ -11,9 +11,12 @@ use Rattle.names.specs.declared.Answer.the-variants.{Going}
 use Rattle.record.specs.Worker.{idle}
 use Rattle.prepare.specs.declared.Limits.{Limits}
 use Rattle.register.specs.Events.{Event}
-use Rattle.crew.specs.Crew.{Left, turnAt, stored}
+use Rattle.words.specs.Words.{tables, Left}
+use Rattle.header.specs.Header.{fresh}
+use Rattle.crew.specs.Crew.{Crew, turnAt, stored}
 use Rattle.promises.specs.Wrong.{Step}
-use Rattle.story.specs.Run.{State, workerOf, stateOf, Call, start, step, left, prepares, event, Run}
+use Rattle.story.specs.Shared.{workerOf, Call, start, step}
+use Rattle.story.specs.Run.{State, stateOf, leaves, prepares, event, Run, shared}
 
 -- ---- what is lent: tables of zeros, just long enough
 abbrev pub times : {A : Type 0} → ℕ → A → List A → List A
@@ -22,10 +25,9 @@ times (suc n) x xs = x ∷ times n x xs
 
 abbrev pub blank : Limits → State
 blank l = record {
-  header = record { m = 0; k = 0; w = 0; l = 0; size = 0; count = 0; busy = 0 };
+  header = fresh 0 0 0 0;
   workers = times (l .w) idle [];
-  nodes = times ((l .m + l .w + l .k) * 3) 0 [];
-  buckets = times (l .m) 0 [];
+  tables = tables (times ((l .m + l .w + l .k) * 3) 0 []) (times (l .m) 0 []);
 }
 
 -- ---- a schedule: starts, and some steps of a worker
@@ -40,26 +42,26 @@ callsOf (steps w n ∷ rs) = times n (step w) (callsOf rs)
 
 -- a register of these limits, prepared over them
 abbrev pub Prepared : Limits → Type 0
-Prepared l = prepares l (blank l) .called .answer ≡ Going
+Prepared l = prepares l (blank l) .out .called .answer ≡ Going
 
-abbrev pub fresh : Limits → State
-fresh l = stateOf (prepares l (blank l))
+abbrev pub begins : Limits → State
+begins l = stateOf (prepares l (blank l))
 
 -- its run; after its calls worker 16 is asked, and there is none
 abbrev pub runOf : (l : Limits) → Prepared l → List Record → Run
 runOf l p rs = record { limits = l; lent = blank l; fresh = p; call = λ i. getD (callsOf rs) i (step 16) }
 
 -- ---- another register: our starts, and steps of its own
-abbrev pub leftBy : Step → State → Call → Left
-leftBy other s (start w kind key) = left s (start w kind key)
-leftBy other s (step w) =
-    pick (ltb (length (s .workers)) (s .header .w)) (left s (step w))
-    (stored (s .workers) w (other (turnAt (s .header) (s .workers) w) (s .nodes) (s .buckets)))
+abbrev pub leavesBy : Step → State → Call → Left Crew
+leavesBy other s (start w kind key) = leaves s (start w kind key)
+leavesBy other s (step w) =
+    pick (ltb (length (s .workers)) (s .header .w)) (leaves s (step w))
+    (stored (s .workers) w (other (turnAt (s .header) (s .workers) w) (s .tables)))
 
 -- its states, and what takes effect in them: such a register writes other words, and decides as ours does
 abbrev pub stateBy : Step → Run → ℕ → State
 stateBy other r zero = stateOf (prepares (r .limits) (r .lent))
-stateBy other r (suc i) = stateOf (leftBy other (stateBy other r i) (r .call i))
+stateBy other r (suc i) = stateOf (leavesBy other (stateBy other r i) (r .call i))
 
 abbrev pub eventBy : Step → Run → ℕ → Event
 eventBy other r i = event (stateBy other r i) (r .call i)
@@ -75,17 +77,18 @@ pub record Line : Type 0 where
 abbrev pub line : (worker kind key : ℕ) → Answer → (steps : ℕ) → Line
 line w kind key a n = record { worker = w; kind = kind; key = key; answer = a; steps = n }
 
-abbrev pub printed : State → Call → Left → List Line → List Line
+abbrev pub printed : State → Call → Left Crew → List Line → List Line
 printed s (start w kind key) l rest = rest
 printed s (step w) l rest =
-    let x = workerOf s w in
-    pick (ends (l .called .answer)) (line w (x .kind) (x .key) (l .called .answer) (l .called .steps) ∷ rest) rest
+    let x = workerOf (shared s) w in
+    let c = l .out .called in
+    pick (ends (c .answer)) (line w (x .kind) (x .key) (c .answer) (c .steps) ∷ rest) rest
 
 -- the lines of these calls from a state on, by a register that leaves so much of a call
-abbrev pub linesOf : (State → Call → Left) → State → List Call → List Line
-linesOf leaves s [] = []
-linesOf leaves s (c ∷ cs) = let rest = linesOf leaves (stateOf (leaves s c)) cs in printed s c (leaves s c) rest
+abbrev pub linesOf : (State → Call → Left Crew) → State → List Call → List Line
+linesOf by s [] = []
+linesOf by s (c ∷ cs) = let rest = linesOf by (stateOf (by s c)) cs in printed s c (by s c) rest
 
 -- a schedule prints these lines
-abbrev pub Prints : (State → Call → Left) → Limits → List Record → List Line → Type 0
-Prints leaves l rs lines = linesOf leaves (fresh l) (callsOf rs) ≡ lines
+abbrev pub Prints : (State → Call → Left Crew) → Limits → List Record → List Line → Type 0
+Prints by l rs lines = linesOf by (begins l) (callsOf rs) ≡ lines

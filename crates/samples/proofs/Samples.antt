@@ -1,12 +1,12 @@
--- Each example is a closed run, so the definitions compute it.
+-- Each sample is a closed run, so the definitions compute it.
 -- Assumes nothing.
 use mathlib.Core.Path.{refl}
-use Rattle.examples.specs.Examples.{Examples}
-use Rattle.examples.proofs.Computing.{computed}
+use Rattle.samples.specs.Samples.{Samples}
+use Rattle.samples.proofs.Computing.{computed}
 
-pub examples : Examples
+pub samples : Samples
 unfolding computed
-examples = record {
+samples = record {
   f4-fails = record { prepared = refl; turned = (refl, refl); printed = refl; ended = refl };
   l2-fails = record { prepared = refl; turned = (refl, refl); printed = refl; ended = refl };
   d4a-fails = record { prepared = refl; turned = (refl, refl); printed = refl; ended = refl };

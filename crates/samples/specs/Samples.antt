@@ -1,4 +1,4 @@
--- Where workers meet: a swap that fails, a count below zero, an old size. Each example is computed to its end.
+-- Where workers meet: a swap that fails, a count below zero, an old size. Each sample is computed to its end.
 use Prim.Native.Nat.{ℕ, suc}
 use mathlib.Core.List.{List, [], _∷_}
 use mathlib.Core.Path.{_≡_}
@@ -8,40 +8,41 @@ use Rattle.names.specs.Names.{TB, F1, F4, L2, D4A, D4B, EXTRA, INSERT, FIND, DE
 use Rattle.names.specs.declared.Answer.the-variants.{Yes, No}
 use Rattle.header.specs.Header.{nodesOf}
 use Rattle.prepare.specs.declared.Limits.{Limits}
-use Rattle.story.specs.Run.{State, workerOf, left, Run, state}
-use Rattle.examples.specs.Played.{Record, starts, steps, callsOf, Prepared, runOf, Line, line, Prints}
+use Rattle.story.specs.Shared.{Shared, workerOf}
+use Rattle.story.specs.Run.{State, leaves, Run, state, shared}
+use Rattle.samples.specs.Played.{Record, starts, steps, callsOf, Prepared, runOf, Line, line, Prints}
 
 -- a schedule, a call at which it turns and how, and what it prints: lines, then "end keys count size"
-pub record Example : Type 1 where
+pub record Sample : Type 1 where
   pub limits : Limits
   pub schedule : List Record
   pub call : ℕ
-  pub turns : (before after : State) → Type 0
+  pub turns : (before after : Shared) → Type 0
   pub lines : List Line
   pub end : ℕ × ℕ × ℕ
 
 -- the run turns so at that call, prints these lines, and ends with so many registered keys, this count and this size
-abbrev pub TurnsIn : Example → Run → Type 0
-TurnsIn e r = e .turns (state r (e .call)) (state r (suc (e .call)))
+abbrev pub TurnsIn : Sample → Run → Type 0
+TurnsIn e r = e .turns (shared (state r (e .call))) (shared (state r (suc (e .call))))
 
-abbrev pub EndsIn : Example → State → Type 0
-EndsIn e s = (keysFrom (s .nodes) (nodesOf (s .header)) 1, s .header .count, s .header .size) ≡ e .end
+abbrev pub EndsIn : Sample → State → Type 0
+EndsIn e s = (keysFrom (s .tables .nodes) (nodesOf (s .header)) 1, s .header .count, s .header .size) ≡ e .end
 
-pub record Right (e : Example) : Type 0 where
+pub record Right (e : Sample) : Type 0 where
   pub prepared : Prepared (e .limits)
   pub turned : TurnsIn e (runOf (e .limits) prepared (e .schedule))
-  pub printed : Prints left (e .limits) (e .schedule) (e .lines)
+  pub printed : Prints leaves (e .limits) (e .schedule) (e .lines)
   pub ended : EndsIn e (state (runOf (e .limits) prepared (e .schedule)) (length (callsOf (e .schedule))))
 
 abbrev pub limits : (m k w l : ℕ) → Limits
 limits m k w l = record { m = m; k = k; w = w; l = l }
 
 -- worker w's swap fails at this place, and the search begins again
-abbrev pub Fails : (w place : ℕ) (before after : State) → Type 0
+abbrev pub Fails : (w place : ℕ) (before after : Shared) → Type 0
 Fails w place before after = (workerOf before w .place ≡ place) × (workerOf after w .place ≡ F1)
 
 -- worker 0 comes to unlink the node that worker 1 marked, and worker 1 has unlinked it
-abbrev pub f4Fails : Example
+abbrev pub f4Fails : Sample
 f4Fails = record {
   limits = limits 4 4 2 1;
   schedule =
@@ -54,7 +55,7 @@ f4Fails = record {
 }
 
 -- two inserts of one key come to the same gap; the second finds the first's node
-abbrev pub l2Fails : Example
+abbrev pub l2Fails : Sample
 l2Fails = record {
   limits = limits 4 4 2 1;
   schedule = starts 0 INSERT 0 ∷ steps 0 4 ∷ starts 1 INSERT 0 ∷ steps 1 4 ∷ steps 0 1 ∷ steps 1 1 ∷ steps 0 2 ∷ steps 1 3 ∷ [];
@@ -65,7 +66,7 @@ l2Fails = record {
 }
 
 -- two deletes find one node; the second to mark it says no
-abbrev pub d4aFails : Example
+abbrev pub d4aFails : Sample
 d4aFails = record {
   limits = limits 4 4 2 1;
   schedule =
@@ -78,7 +79,7 @@ d4aFails = record {
 }
 
 -- a find unlinks the marked node before its delete does: one search more, then D6
-abbrev pub d4bFails : Example
+abbrev pub d4bFails : Sample
 d4bFails = record {
   limits = limits 4 4 2 1;
   schedule = starts 0 INSERT 0 ∷ steps 0 7 ∷ starts 0 FIND 0 ∷ steps 0 3 ∷ starts 1 DELETE 0 ∷ steps 1 6 ∷ steps 0 3 ∷ steps 1 3 ∷ [];
@@ -89,7 +90,7 @@ d4bFails = record {
 }
 
 -- "a key can be deleted and counted off before its insert counts itself"
-abbrev pub belowZero : Example
+abbrev pub belowZero : Sample
 belowZero = record {
   limits = limits 4 4 2 1;
   schedule = starts 0 INSERT 0 ∷ steps 0 6 ∷ starts 1 DELETE 0 ∷ steps 1 8 ∷ steps 0 1 ∷ [];
@@ -100,7 +101,7 @@ belowZero = record {
 }
 
 -- worker 1 read size 2 and wants bucket 0 for key 10; size is 4 by now, and the older bucket still precedes the key
-abbrev pub oldSize : Example
+abbrev pub oldSize : Sample
 oldSize = record {
   limits = limits 4 12 2 1;
   schedule =
@@ -116,7 +117,7 @@ oldSize = record {
 }
 
 -- every one is right
-pub record Examples : Type 0 where
+pub record Samples : Type 0 where
   pub f4-fails : Right f4Fails
   pub l2-fails : Right l2Fails
   pub d4a-fails : Right d4aFails

@@ -7,11 +7,11 @@ use mathlib.Core.Path.{_≡_, refl, sym, ap, _∙_}
 use native.Mathlib.Omega.{arith}
 use Rattle.register.specs.Chain.{key, after, On, first, then, Registered}
 use Rattle.promises.specs.Wrong.{freesAtOnce, storesEarly}
-use Rattle.story.specs.Run.{State}
+use Rattle.story.specs.Run.{State, shared}
 use Rattle.story.specs.Story.{Where, free, chained, held, waiting, At}
-use Rattle.examples.specs.Played.{runOf, stateBy}
-use Rattle.examples.specs.Errors.{tiny, early, Errors}
-use Rattle.examples.proofs.Computing.{computed}
+use Rattle.samples.specs.Played.{runOf, stateBy}
+use Rattle.samples.specs.Errors.{tiny, early, Errors}
+use Rattle.samples.proofs.Computing.{computed}
 
 -- a chain of two nodes
 on-two : (ns : List ℕ) (a : ℕ) → after ns 1 ≡ a → after ns a ≡ 0 → {n : ℕ} → On ns n → (n ≡ 1) ⊎ (n ≡ a)
@@ -28,17 +28,17 @@ stored-early : State
 unfolding computed storesEarly
 stored-early = stateBy storesEarly (runOf tiny refl early) 33
 
-on-chain : {n : ℕ} → On (stored-early .nodes) n → (n ≡ 1) ⊎ (n ≡ 2)
+on-chain : {n : ℕ} → On (stored-early .tables .nodes) n → (n ≡ 1) ⊎ (n ≡ 2)
 unfolding computed storesEarly stored-early
-on-chain o = on-two (stored-early .nodes) 2 refl refl o
+on-chain o = on-two (stored-early .tables .nodes) 2 refl refl o
 
-not-registered : Registered (stored-early .nodes) 1 → ⊥
+not-registered : Registered (stored-early .tables .nodes) 1 → ⊥
 unfolding computed storesEarly stored-early
 not-registered r = ⊎-elim
-    (λ e. let z : _≡_ {A = ℕ} 0 2147483649 = sym (ap (key (stored-early .nodes)) e) ∙ r .has in omega arith)
-    (λ e. let z : _≡_ {A = ℕ} 2147483648 2147483649 = sym (ap (key (stored-early .nodes)) e) ∙ r .has in omega arith) (on-chain (r .on))
+    (λ e. let z : _≡_ {A = ℕ} 0 2147483649 = sym (ap (key (stored-early .tables .nodes)) e) ∙ r .has in omega arith)
+    (λ e. let z : _≡_ {A = ℕ} 2147483648 2147483649 = sym (ap (key (stored-early .tables .nodes)) e) ∙ r .has in omega arith) (on-chain (r .on))
 
-nowhere : (q : Where) → At stored-early 5 q → ⊥
+nowhere : (q : Where) → At (shared stored-early) 5 q → ⊥
 unfolding computed storesEarly stored-early
 nowhere free e = let z : _≡_ {A = ℕ} 2147483648 0 = e in omega arith
 nowhere chained o = ⊎-elim (λ e. omega arith) (λ e. omega arith) (on-chain o)
