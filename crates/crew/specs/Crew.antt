@@ -76,8 +76,10 @@ prepareOne l records h ts =
     let p = prepared l h ts in
     pick (ltb records (l .w)) (left (wants (l .w) (answered (tooFewFor l) h)) ts) (left (wants (l .w) (p .out)) (p .tables))
 
+-- the records that are wanted are filled
+abbrev pub made : List Worker → Left Ready → Left Crew
+made ws p = left (crew (p .out .called) (filled (p .out .count) (p .out .worker) ws)) (p .tables)
+
 -- a register is prepared: its W records are idle, and those past W stay
 abbrev pub prepareAt : Limits → Header → List Worker → Tables → Left Crew
-prepareAt l h ws ts =
-    let p = prepareOne l (length ws) h ts in
-    left (crew (p .out .called) (filled (p .out .count) (p .out .worker) ws)) (p .tables)
+prepareAt l h ws ts = made ws (prepareOne l (length ws) h ts)

@@ -21,13 +21,14 @@ use Rattle.record.specs.declared.Worker.{Worker}
 use Rattle.record.specs.Worker.{idle}
 use Rattle.prepare.specs.declared.Limits.{Limits}
 use Rattle.names.specs.declared.Verdict.the-variants.{Refused}
-use Rattle.prepare.specs.Prepare.{freshHeader, prepareVerdict, tooFewFor}
-use Rattle.prepare.specs.Prepare.{prepared as register-prepared}
-use Rattle.crew.specs.Crew.{Left, prepareAt}
+use Rattle.prepare.specs.Prepare.{freshHeader, prepareVerdict, tooFewFor, prepared}
+use Rattle.words.specs.Words.{Tables, Left}
+use Rattle.crew.specs.declared.Ready.{Ready}
+use Rattle.crew.specs.Crew.{prepareOne, prepareAt}
 use Rattle.lines.specs.Lines.{kindNamed, endedLine, refusedLine}
 use Rattle.lines.proofs.Joined.{ended-none}
 use Rattle.replay.specs.declared.Operation.{Operation}
-use Rattle.replay.specs.Play.{bucketsOf, limitsOf, blank, prepared, callLine}
+use Rattle.replay.specs.Play.{MOST-WORKERS, bucketsOf, limitsOf, blank, opened, callLine}
 
 -- ---- the line of a call
 pub refused-line : (o : Operation) (a : Answer) (steps offset n : ℕ) → n ≡ numberOf a → refuses a ≡ true → refusedLine n offset ≡ callLine o a steps offset
@@ -52,15 +53,15 @@ unfolding bucketsOf limitBroken powerUpTo
 limits-broken body o = rw (pick-true (outside 1 10 (getD body 0 0)) 0 (2 ^ getD body 0 0) o)
 
 -- a broken limit is refused with 10 by the register, and where there are too few records
-limit-refused : (l : Limits) (h : Header) (ns bs : List ℕ) → limitBroken (freshHeader l) ≡ true → register-prepared l h ns bs .out .answer ≡ Limit
-unfolding register-prepared prepareVerdict
-limit-refused l h ns bs e = rw (pick-true (limitBroken (freshHeader l)) (Refused Limit) _ e)
+limit-refused : (l : Limits) (h : Header) (ts : Tables) → limitBroken (freshHeader l) ≡ true → prepared l h ts .out .answer ≡ Limit
+unfolding prepared prepareVerdict
+limit-refused l h ts e = rw (pick-true (limitBroken (freshHeader l)) (Refused Limit) _ e)
 
-refused-at : (l : Limits) (h : Header) (ws : List Worker) (ns bs : List ℕ) → limitBroken (freshHeader l) ≡ true → prepareAt l h ws ns bs .called .answer ≡ Limit
-unfolding prepareAt tooFewFor
-refused-at l h ws ns bs e = both (λ (k : Left). k .called .answer ≡ Limit) (ltb (length ws) (l .w)) (pick-true (limitBroken (freshHeader l)) Limit Short e) (limit-refused l h ns bs e)
+refused-at : (l : Limits) (h : Header) (ws : List Worker) (ts : Tables) → limitBroken (freshHeader l) ≡ true → prepareAt l h ws ts .out .called .answer ≡ Limit
+unfolding prepareOne tooFewFor
+refused-at l h ws ts e = both (λ (p : Left Ready). p .out .called .answer ≡ Limit) (ltb (length ws) (l .w)) (pick-true (limitBroken (freshHeader l)) Limit Short e) (limit-refused l h ts e)
 
 -- "an exponent outside 1 to 10 is refused with 10"
-pub exponent-refused : (body ns bs : List ℕ) → outside 1 10 (getD body 0 0) ≡ true → prepared body ns bs .called .answer ≡ Limit
-unfolding prepared
-exponent-refused body ns bs o = refused-at (limitsOf body) blank (replicate 16 idle) ns bs (limits-broken body o)
+pub exponent-refused : (body : List ℕ) (ts : Tables) → outside 1 10 (getD body 0 0) ≡ true → opened body ts .out .called .answer ≡ Limit
+unfolding opened
+exponent-refused body ts o = refused-at (limitsOf body) blank (replicate MOST-WORKERS idle) ts (limits-broken body o)

@@ -10,7 +10,8 @@ use lib.ListN.{length}
 use borrow.Author.Tests.{le-leb, lt-ltb}
 use Rattle.choice.proofs.Auto.{pick-true}
 use Rattle.choice.proofs.Cases.{both}
-use Rattle.crew.specs.Crew.{Left}
+use Rattle.words.specs.Words.{Left}
+use Rattle.crew.specs.Crew.{Crew}
 use Rattle.script.specs.declared.Entry.{Entry}
 use Rattle.script.specs.declared.Entry.the-variants.{End}
 use Rattle.script.specs.Script.{entryAt}
@@ -41,7 +42,7 @@ goes-on input turns offset h e = rw (lt-ltb 0 turns h) e
 goes-not : (input : List ℕ) (turns offset : ℕ) → isPlayed (kindOf (entryAt input offset)) ≡ false → goes input turns offset ≡ false
 goes-not input turns offset e = rw e (and-false (ltb 0 turns))
 
-pub turns-enough : (input : List ℕ) (turns more offset : ℕ) (l : Left) → length input ≤ offset + turns → followed input (turns + more) offset l ≡ followed input turns offset l
+pub turns-enough : (input : List ℕ) (turns more offset : ℕ) (l : Left Crew) → length input ≤ offset + turns → followed input (turns + more) offset l ≡ followed input turns offset l
 turns-enough input zero more offset l h =
     followed-stop input (0 + more) offset l (goes-not input (0 + more) offset (end-stops input offset (omega arith)))
     ∙ sym (followed-stop input 0 offset l refl)

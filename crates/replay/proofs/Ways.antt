@@ -1,26 +1,21 @@
 -- What was tested and read says which way each definition goes.
 -- Assumes nothing.
-use Prim.Native.Nat.{ℕ, zero, suc, _<_, _≤_}
-use mathlib.Core.Bool.{true, false, false≢true}
+use Prim.Native.Nat.{ℕ, _<_, _≤_}
+use mathlib.Core.Bool.{true, false}
 use mathlib.Core.Path.{_≡_, sym}
 use mathlib.Core.List.{List, [], _++_}
-use native.Mathlib.Omega.{arith}
-use lib.ListN.{length, replicate}
+use lib.ListN.{length}
 use borrow.Author.Tests.{lt-ltb, le-ltb, le-leb, lt-leb, eq-eqb, ne-eqb}
 use Rattle.choice.proofs.Auto.{pick-true, pick-false}
 use Rattle.names.specs.Names.{numberOf, goesOn}
 use Rattle.names.specs.declared.Answer.{Answer}
-use Rattle.crew.specs.Crew.{Left}
+use Rattle.words.specs.Words.{Tables, Left}
+use Rattle.crew.specs.Crew.{Crew}
 use Rattle.script.specs.Script.{entryAt, bodyAt}
 use Rattle.lines.specs.Lines.{refusedLine}
 use Rattle.replay.specs.declared.Stand.{Stand}
-use Rattle.replay.specs.Play.{prepared, noStep}
-use Rattle.replay.specs.Replay.{standOf, stopLine, firstLine, followed, begun, LONGEST, printed}
-
--- a record of steps that isn't a record of no step has one
-pub steps-some : (kind number : ℕ) → noStep kind number ≡ false → 3 < kind → 1 ≤ number
-steps-some kind zero e h = absurd (false≢true (sym (rw (lt-ltb 3 kind h) at e)))
-steps-some kind (suc number) e h = omega arith
+use Rattle.replay.specs.Play.{opened}
+use Rattle.replay.specs.Replay.{standOf, stopLine, firstLine, followed, beginning, blanks, TOO-LONG, LONGEST, printed}
 
 -- ---- what stops the run
 pub stop-none : (input : List ℕ) (offset : ℕ) → length input ≤ offset → [] ≡ stopLine input offset
@@ -32,17 +27,17 @@ unfolding stopLine
 stop-refused input offset s h e = rw e (sym (pick-false _ _ _ (lt-leb (length input) offset h)))
 
 -- ---- the first record
-module _ (input : List ℕ) (next : ℕ) (a : Answer) (l : Left) (body ns bs : List ℕ) (is : l ≡ prepared body ns bs) (of : body ≡ bodyAt input 0) (told : a ≡ l .called .answer) where
-  pub begun-refused : goesOn a ≡ false → refusedLine (numberOf a) 0 ≡ begun input next (prepared (bodyAt input 0) ns bs)
-  unfolding begun
+module _ (input : List ℕ) (next : ℕ) (a : Answer) (l : Left Crew) (body : List ℕ) (ts : Tables) (is : l ≡ opened body ts) (of : body ≡ bodyAt input 0) (told : a ≡ l .out .called .answer) where
+  pub begun-refused : goesOn a ≡ false → refusedLine (numberOf a) 0 ≡ beginning input next (opened (bodyAt input 0) ts)
+  unfolding beginning
   begun-refused h = rw (← of, ← is, ← told) (sym (pick-false _ _ _ h))
 
-  pub begun-on : goesOn a ≡ true → firstLine (l .called .header) ++ followed input (length input) next l ≡ begun input next (prepared (bodyAt input 0) ns bs)
-  unfolding begun
+  pub begun-on : goesOn a ≡ true → firstLine (l .out .called .header) ++ followed input (length input) next l ≡ beginning input next (opened (bodyAt input 0) ts)
+  unfolding beginning
   begun-on h = rw (← of, ← is, ← told) (sym (pick-true _ _ _ h))
 
 -- ---- the run
-pub printed-long : (input : List ℕ) → LONGEST < length input → refusedLine 33 LONGEST ≡ printed input
+pub printed-long : (input : List ℕ) → LONGEST < length input → refusedLine TOO-LONG LONGEST ≡ printed input
 unfolding printed
 printed-long input h = sym (pick-true _ _ _ (lt-ltb LONGEST (length input) h))
 
@@ -51,6 +46,6 @@ module _ (input : List ℕ) (s : Stand) (short : length input ≤ LONGEST) (is :
   unfolding printed
   printed-refused h = rw (is, pick-false _ _ _ (le-ltb LONGEST (length input) short)) (sym (pick-false _ _ _ (rw is at (ne-eqb (s .kind) 0 h))))
 
-  pub printed-begun : s .kind ≡ 0 → begun input (s .next) (prepared (bodyAt input 0) (replicate 15408 0) (replicate 1024 0)) ≡ printed input
+  pub printed-begun : s .kind ≡ 0 → beginning input (s .next) (opened (bodyAt input 0) blanks) ≡ printed input
   unfolding printed
   printed-begun h = rw (is, pick-false _ _ _ (le-ltb LONGEST (length input) short)) (sym (pick-true _ _ _ (rw is at (eq-eqb (s .kind) 0 h))))

@@ -1,10 +1,10 @@
 -- One record of a schedule: the call that it asks for, and the line that the call prints.
-use Prim.Native.Nat.{ℕ, _-_, _^_}
-use mathlib.Core.Bool.{Bool, _&&_}
+use Prim.Native.Nat.{ℕ, _^_}
 use mathlib.Core.List.{List, []}
 use lib.Dec.{ltb, leb, eqb}
 use lib.ListN.{getD, replicate}
 use Rattle.choice.specs.Choice.{pick}
+use Rattle.words.specs.Words.{Tables, Left}
 use Rattle.names.specs.Names.{numberOf, refuses, goesOn}
 use Rattle.names.specs.declared.Answer.{Answer}
 use Rattle.names.specs.declared.Answer.the-variants.{Going}
@@ -13,12 +13,16 @@ use Rattle.header.specs.Header.{fresh, outside}
 use Rattle.record.specs.declared.Worker.{Worker}
 use Rattle.record.specs.Worker.{idle}
 use Rattle.prepare.specs.declared.Limits.{Limits}
-use Rattle.crew.specs.declared.Call.{Call}
-use Rattle.crew.specs.declared.Call.the-variants.{Start, Steps}
-use Rattle.crew.specs.Crew.{Left, left, prepareAt, serveAt}
+use Rattle.register.specs.declared.Call.{Call}
+use Rattle.register.specs.declared.Call.the-variants.{Start, Step}
+use Rattle.crew.specs.Crew.{Crew, prepareAt, serveAt}
 use Rattle.numbers.specs.Numbers.{littleEndian}
 use Rattle.lines.specs.Lines.{endedLine, refusedLine}
 use Rattle.replay.specs.declared.Operation.{Operation}
+
+-- the most workers that a register has
+abbrev pub MOST-WORKERS : ℕ
+MOST-WORKERS = 16
 
 -- ---- 00: exponent of M, K (2 bytes), W, L
 -- M is 2 to the exponent; an exponent outside 1 to 10 stands for no M, and preparing refuses 0 with 10
@@ -33,8 +37,8 @@ abbrev pub blank : Header
 blank = fresh 0 0 0 0
 
 -- the register that the body asks for, over lent words
-unfoldable pub prepared : List ℕ → List ℕ → List ℕ → Left
-prepared body ns bs = prepareAt (limitsOf body) blank (replicate 16 idle) ns bs
+unfoldable pub opened : List ℕ → Tables → Left Crew
+opened body ts = prepareAt (limitsOf body) blank (replicate MOST-WORKERS idle) ts
 
 -- ---- the other kinds: a body's first byte is the worker
 abbrev pub workerOf : List ℕ → ℕ
@@ -44,18 +48,13 @@ workerOf body = getD body 0 0
 unfoldable pub numberIn : ℕ → List ℕ → ℕ
 numberIn kind body = pick (leb kind 3) (littleEndian 4 body 1) (pick (eqb kind 4) 1 (getD body 1 0))
 
--- no step: 05 with n 0
-abbrev pub noStep : ℕ → ℕ → Bool
-noStep kind number = ltb 3 kind && eqb number 0
-
--- the call: 01, 02, 03 a start; 04, 05 up to so many steps, ending after the first whose answer isn't 0
+-- the call: 01, 02, 03 a start; 04, 05 steps
 unfoldable pub callOf : ℕ → ℕ → Call
-callOf kind number = pick (leb kind 3) (Start kind number) (Steps (number - 1))
+callOf kind number = pick (leb kind 3) (Start kind number) Step
 
--- what it leaves; no step is no call: going on, and all as it was
-unfoldable pub called : ℕ → ℕ → ℕ → Header → List Worker → List ℕ → List ℕ → Left
-called kind w number h ws ns bs =
-    pick (noStep kind number) (left (record { answer = Going; steps = 0; header = h }) ws ns bs) (serveAt h ws w (callOf kind number) ns bs)
+-- what it leaves: steps are so many at most, ending after the first whose answer isn't 0
+unfoldable pub played : ℕ → ℕ → ℕ → Header → List Worker → Tables → Left Crew
+played kind w number h ws ts = serveAt h ws w (callOf kind number) number ts
 
 -- ---- the line of a call
 -- whose operation it is: the worker, and the kind and key that its record had as the call began

@@ -9,13 +9,14 @@ use Rattle.names.specs.Names.{numberOf, goesOn}
 use Rattle.chain.specs.Chain.{keysFrom}
 use Rattle.header.specs.declared.Header.{Header}
 use Rattle.record.specs.Worker.{within}
-use Rattle.crew.specs.Crew.{Left}
+use Rattle.words.specs.Words.{Tables, tables, Left}
+use Rattle.crew.specs.Crew.{Crew}
 use Rattle.script.specs.declared.Entry.{Entry}
 use Rattle.script.specs.declared.Entry.the-variants.{End, Unknown, Cut, Whole}
 use Rattle.script.specs.Script.{entryAt, bodyAt}
 use Rattle.lines.specs.Lines.{registerLine, refusedLine, endLine}
 use Rattle.replay.specs.declared.Stand.{Stand}
-use Rattle.replay.specs.Play.{prepared, workerOf, numberIn, called, operationOf, callLine}
+use Rattle.replay.specs.Play.{opened, workerOf, numberIn, played, operationOf, callLine}
 
 -- ---- what stands at an offset, to the run
 -- no kind
@@ -35,12 +36,25 @@ nextOf Unknown = 0
 nextOf Cut = 0
 nextOf (Whole kind next) = next
 
+-- what a schedule itself is refused with: an unknown kind, a record cut short, 00 not just first, an input too long
+abbrev pub UNKNOWN : ℕ
+UNKNOWN = 30
+
+abbrev pub CUT-SHORT : ℕ
+CUT-SHORT = 31
+
+abbrev pub MISPLACED : ℕ
+MISPLACED = 32
+
+abbrev pub TOO-LONG : ℕ
+TOO-LONG = 33
+
 -- the number that refuses it: 30, then 31, and then 32
 abbrev pub faultOf : Entry → ℕ
-faultOf End = 32
-faultOf Unknown = 30
-faultOf Cut = 31
-faultOf (Whole kind next) = 32
+faultOf End = MISPLACED
+faultOf Unknown = UNKNOWN
+faultOf Cut = CUT-SHORT
+faultOf (Whole kind next) = MISPLACED
 
 abbrev pub standOf : Entry → Stand
 standOf e = record { kind = kindOf e; next = nextOf e; fault = faultOf e }
@@ -58,6 +72,16 @@ stopLine input offset = pick (leb (length input) offset) [] (refusedLine (faultO
 abbrev pub MOST-NODES : ℕ
 MOST-NODES = 5136
 
+abbrev pub NODE-WORDS : ℕ
+NODE-WORDS = 15408
+
+abbrev pub MOST-BUCKETS : ℕ
+MOST-BUCKETS = 1024
+
+-- the words that are lent: three to a node, and the most buckets
+abbrev pub blanks : Tables
+blanks = tables (replicate NODE-WORDS 0) (replicate MOST-BUCKETS 0)
+
 -- last, `end keys count size`
 abbrev pub lastLine : Header → List ℕ → List ℕ
 lastLine h ns = endLine (keysFrom ns MOST-NODES 1) (h .count) (h .size)
@@ -66,25 +90,25 @@ abbrev pub closed : List ℕ → ℕ → Header → List ℕ → List ℕ
 closed input offset h ns = stopLine input offset ++ lastLine h ns
 
 -- ---- the records after the first, one a turn, each on what the last call left; there are no more of them than bytes
-unfoldable pub followed : List ℕ → ℕ → ℕ → Left → List ℕ
-followed input zero offset l = closed input offset (l .called .header) (l .nodes)
+unfoldable pub followed : List ℕ → ℕ → ℕ → Left Crew → List ℕ
+followed input zero offset l = closed input offset (l .out .called .header) (l .tables .nodes)
 followed input (suc turns) offset l =
     let e = entryAt input offset in
     let body = bodyAt input offset in
     let w = workerOf body in
-    let m = called (kindOf e) w (numberIn (kindOf e) body) (l .called .header) (l .workers) (l .nodes) (l .buckets) in
+    let m = played (kindOf e) w (numberIn (kindOf e) body) (l .out .called .header) (l .out .workers) (l .tables) in
     pick (isPlayed (kindOf e))
-    (callLine (operationOf w (l .workers)) (m .called .answer) (m .called .steps) offset ++ followed input turns (nextOf e) m)
-    (closed input offset (l .called .header) (l .nodes))
+    (callLine (operationOf w (l .out .workers)) (m .out .called .answer) (m .out .called .steps) offset ++ followed input turns (nextOf e) m)
+    (closed input offset (l .out .called .header) (l .tables .nodes))
 
 -- ---- the first record: `register M K W L`, and the records after it; a refused 00 stops the run
 abbrev pub firstLine : Header → List ℕ
 firstLine h = registerLine (h .m) (h .k) (h .w) (h .l)
 
-unfoldable pub begun : List ℕ → ℕ → Left → List ℕ
-begun input next l =
-    pick (goesOn (l .called .answer)) (firstLine (l .called .header) ++ followed input (length input) next l)
-    (refusedLine (numberOf (l .called .answer)) 0)
+unfoldable pub beginning : List ℕ → ℕ → Left Crew → List ℕ
+beginning input next l =
+    pick (goesOn (l .out .called .answer)) (firstLine (l .out .called .header) ++ followed input (length input) next l)
+    (refusedLine (numberOf (l .out .called .answer)) 0)
 
 -- ---- the bytes of a schedule to the bytes of the text that it prints
 abbrev pub LONGEST : ℕ
@@ -93,7 +117,7 @@ LONGEST = 65536
 -- 33 is found before anything runs, so only its line is printed; a run that does not open with 00 is refused
 unfoldable pub printed : List ℕ → List ℕ
 printed input =
-    pick (ltb LONGEST (length input)) (refusedLine 33 LONGEST)
+    pick (ltb LONGEST (length input)) (refusedLine TOO-LONG LONGEST)
     (pick (eqb (kindOf (entryAt input 0)) 0)
-    (begun input (nextOf (entryAt input 0)) (prepared (bodyAt input 0) (replicate 15408 0) (replicate 1024 0)))
+    (beginning input (nextOf (entryAt input 0)) (opened (bodyAt input 0) blanks))
     (refusedLine (faultOf (entryAt input 0)) 0))

@@ -1,21 +1,19 @@
 // The run of a schedule: record after record moves the register, and the lines that it prints are laid in a lent buffer.
-ghost use mathlib.Core.Bool.{false};
 ghost use mathlib.Core.Path.{_≡_};
-ghost use Rattle.names.specs.declared.Answer.the-variants.{Going};
-ghost use Rattle.crew.specs.Crew.{left};
+ghost use Rattle.words.specs.Words.{tables, left};
+ghost use Rattle.crew.specs.Crew.{crew};
 ghost use Rattle.script.specs.Script.{entryAt, bodyAt};
 ghost use Rattle.text.specs.Text.{Laid};
 ghost use Rattle.lines.specs.Lines.{refusedLine};
-ghost use Rattle.replay.specs.Play.{bucketsOf, limitsOf, prepared, numberIn, noStep, callOf, called, operationOf, callLine};
-ghost use Rattle.replay.specs.Replay.{kindOf, standOf, stopLine, isPlayed, lastLine, firstLine, begun, printed};
+ghost use Rattle.replay.specs.Play.{bucketsOf, limitsOf, opened, numberIn, callOf, played, operationOf, callLine};
+ghost use Rattle.replay.specs.Replay.{kindOf, standOf, stopLine, isPlayed, lastLine, firstLine, beginning, printed};
 use bank::Bank;
-use crew::Call;
-use crew::Called;
 use header::Header;
 use lines::Line;
 use names::Answer;
 use prepare::Limits;
 use record::Worker;
+use register::Call;
 use script::Entry;
 
 // No kind.
@@ -23,6 +21,23 @@ const NONE: u32 = 6;
 
 // The most nodes that a register has: no chain is longer.
 const MOST_NODES: u32 = 5136;
+
+// The words that are lent to it: three to a node, and the most buckets.
+const NODE_WORDS: usize = 15408;
+
+const MOST_BUCKETS: usize = 1024;
+
+// The most workers that a register has.
+const MOST_WORKERS: usize = 16;
+
+// What a schedule itself is refused with: an unknown kind, a record cut short, 00 not just first, an input too long.
+const UNKNOWN: u32 = 30;
+
+const CUT_SHORT: u32 = 31;
+
+const MISPLACED: u32 = 32;
+
+const TOO_LONG: u32 = 33;
 
 // The longest schedule.
 const LONGEST: usize = 65536;
@@ -66,12 +81,12 @@ fn limits_of(body: &[u8]) -> Limits
 
 // 00: the register that its body asks for, over lent words.
 fn ready(body: &[u8], nodes: &mut [u32], buckets: &mut [u32]) -> Bank
-    ensures { λ r. ⌜ left (r .called) (r .workers) (now (nodes .exit)) (now (buckets .exit)) ≡ prepared (now (body .entry)) (now (nodes .entry)) (now (buckets .entry)) ⌝ }
+    ensures { λ r. ⌜ left (crew (r .called) (r .workers)) (tables (now (nodes .exit)) (now (buckets .exit))) ≡ opened (now (body .entry)) (tables (now (nodes .entry)) (now (buckets .entry))) ⌝ }
 {
     let limits = limits_of(body);
     let idle = Worker::idle();
     let blank = Header::fresh(0, 0, 0, 0);
-    bank::prepare([idle; 16], limits, blank, nodes, buckets)
+    bank::prepare([idle; MOST_WORKERS], limits, blank, nodes, buckets)
 }
 
 // The number in a body: the key of a start, the one step of 04, the n steps of 05.
@@ -87,34 +102,19 @@ fn number_in(kind: u32, body: &[u8]) -> u32
     numbers::byte_at(body, 1)
 }
 
-// No step: going on, and all as it was.
-fn stay(workers: [Worker; 16], header: Header) -> Bank
-    ensures { λ r. ⌜ (r .called ≡ record { answer = Going; steps = 0; header = header }) × (r .workers ≡ workers) ⌝ }
-{
-    let answer = Answer::Going;
-    let called = Called {
-        answer,
-        steps: 0,
-        header,
-    };
-    Bank { called, workers }
-}
-
-// The call of a record that isn't 00: a start, or up to so many steps.
+// The call of a record that isn't 00: a start, or steps.
 fn call_of(kind: u32, number: u32) -> Call
-    requires { ⌜ noStep kind number ≡ false ⌝ }
     ensures { λ r. ⌜ r ≡ callOf kind number ⌝ }
 {
     if kind <= 3 {
         return Call::Start { kind, key: number };
     }
-    let more = number - 1;
-    Call::Steps { more }
+    Call::Step
 }
 
-// What the call leaves; no step is no call.
-fn call(
-    workers: [Worker; 16],
+// What the call leaves; steps are so many at most.
+fn play(
+    workers: [Worker; MOST_WORKERS],
     header: Header,
     kind: u32,
     w: u32,
@@ -122,21 +122,18 @@ fn call(
     nodes: &mut [u32],
     buckets: &mut [u32],
 ) -> Bank
-    ensures { λ r. ⌜ left (r .called) (r .workers) (now (nodes .exit)) (now (buckets .exit)) ≡ called kind w number header workers (now (nodes .entry)) (now (buckets .entry)) ⌝ }
+    ensures { λ r. ⌜ left (crew (r .called) (r .workers)) (tables (now (nodes .exit)) (now (buckets .exit))) ≡ played kind w number header workers (tables (now (nodes .entry)) (now (buckets .entry))) ⌝ }
 {
-    if (3 < kind) & (number == 0) {
-        return stay(workers, header);
-    }
     let call = call_of(kind, number);
-    bank::serve(workers, w, header, call, nodes, buckets)
+    bank::serve(workers, w, header, call, number, nodes, buckets)
 }
 
 // The operation of worker w; past the table it has none.
-fn operation_of(workers: [Worker; 16], w: u32) -> Operation
+fn operation_of(workers: [Worker; MOST_WORKERS], w: u32) -> Operation
     ensures { λ r. ⌜ r ≡ operationOf w workers ⌝ }
 {
     let at = w as usize;
-    if at < 16 {
+    if at < MOST_WORKERS {
         let x = workers[at];
         return Operation {
             worker: w,
@@ -200,24 +197,24 @@ fn stand_at(schedule: &[u8], offset: usize) -> Stand
         Entry::End => Stand {
             kind: NONE,
             next: 0,
-            fault: 32,
+            fault: MISPLACED,
         },
         Entry::Unknown => Stand {
             kind: NONE,
             next: 0,
-            fault: 30,
+            fault: UNKNOWN,
         },
         Entry::Cut => Stand {
             kind: NONE,
             next: 0,
-            fault: 31,
+            fault: CUT_SHORT,
         },
         Entry::Whole { kind, next } => {
             let whole = kind as u32;
             Stand {
                 kind: whole,
                 next,
-                fault: 32,
+                fault: MISPLACED,
             }
         }
     }
@@ -276,7 +273,7 @@ fn begin(
     buckets: &mut [u32],
     out: &mut [u8],
 ) -> usize
-    ensures { λ r. ⌜ Laid (now (out .entry)) 0 (begun (now (schedule .entry)) next (prepared (bodyAt (now (schedule .entry)) 0) (now (nodes .entry)) (now (buckets .entry)))) (now (out .exit)) r ⌝ }
+    ensures { λ r. ⌜ Laid (now (out .entry)) 0 (beginning (now (schedule .entry)) next (opened (bodyAt (now (schedule .entry)) 0) (tables (now (nodes .entry)) (now (buckets .entry))))) (now (out .exit)) r ⌝ }
 {
     let mut bank = ready(script::body_of(schedule, 0), nodes, buckets);
     let answer = answer_of(bank);
@@ -294,7 +291,7 @@ fn begin(
         let number = number_in(kind, body);
         let workers = bank.workers;
         let operation = operation_of(workers, w);
-        bank = call(workers, bank.called.header, kind, w, number, nodes, buckets);
+        bank = play(workers, bank.called.header, kind, w, number, nodes, buckets);
         let answer = answer_of(bank);
         place = put_call(out, place, operation, answer, bank.called.steps, offset);
         offset = stand.next;
@@ -309,13 +306,13 @@ pub fn run(schedule: &[u8], out: &mut [u8]) -> usize
     ensures { λ r. ⌜ Laid (now (out .entry)) 0 (printed (now (schedule .entry))) (now (out .exit)) r ⌝ }
 {
     if LONGEST < schedule.len() {
-        return put_refused(out, 0, 33, LONGEST);
+        return put_refused(out, 0, TOO_LONG, LONGEST);
     }
     let stand = stand_at(schedule, 0);
     if stand.kind != 0 {
         return put_refused(out, 0, stand.fault, 0);
     }
-    let mut nodes = [0u32; 15408];
-    let mut buckets = [0u32; 1024];
+    let mut nodes = [0u32; NODE_WORDS];
+    let mut buckets = [0u32; MOST_BUCKETS];
     begin(schedule, stand.next, &mut nodes, &mut buckets, out)
 }

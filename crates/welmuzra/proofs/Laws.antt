@@ -14,19 +14,21 @@ use Rattle.choice.proofs.Auto.{pick-true, pick-false}
 use Rattle.choice.proofs.Cases.{both}
 use Rattle.names.specs.Names.{refuses}
 use Rattle.names.specs.declared.Answer.{Answer}
-use Rattle.header.specs.Header.{limitBroken}
+use Rattle.header.specs.Header.{limitBroken, missing}
 use Rattle.header.specs.declared.Header.{Header}
 use Rattle.header.proofs.Rows.{limits}
 use Rattle.prepare.specs.declared.Limits.{Limits}
 use Rattle.names.specs.declared.Verdict.{Verdict}
 use Rattle.prepare.specs.Prepare.{freshHeader, prepareVerdict, preparedBy, prepared}
-use Rattle.writes.specs.Carry.{After, after}
-use Rattle.register.specs.declared.Ask.{Ask}
+use Rattle.words.specs.Words.{Tables, lengths, Left, left}
+use Rattle.acts.specs.declared.Outcome.{Outcome}
+use Rattle.register.specs.declared.Call.{Call}
+use Rattle.register.specs.declared.Turn.{Turn}
 use Rattle.register.specs.Step.{refusedWith}
+use Rattle.register.specs.Calls.{askedOf}
 use Rattle.register.proofs.Laws.{past-asked}
-use Rattle.crew.specs.One.{noneOf}
-use Rattle.crew.proofs.Laws.{none-few, none-enough}
-use Rattle.welmuzra.specs.Calls.{Own, own, Lent, lent, says, turnOf, lacksRecords, kept, askWords}
+use Rattle.crew.specs.Crew.{oneCall}
+use Rattle.welmuzra.specs.Calls.{Own, own, says, turnOf, lacksRecords, kept, callWords}
 use Rattle.welmuzra.specs.Words.{RECORD, headerOf, markWord, recordOf, lacks, wordsAt, laid}
 
 -- record w of a table that has it is the one that its fifteen words are
@@ -39,26 +41,34 @@ pub has-record : (len width w : ℕ) → lacksRecords len width ≡ false → w 
 has-record len width w e l = omega (arith, ltb-false len (width * RECORD) e)
 
 -- ---- a worker that there is not
-module _ (hs rs : List ℕ) (w : ℕ) (ask : Ask) (ns bs : List ℕ) where
-  abbrev none : Bool → Lent
-  none few = lent (own (says (noneOf (headerOf hs) few (length ns) (length bs)) 0) hs rs) ns bs
+module _ (hs rs : List ℕ) (w : ℕ) (c : Call) (ts : Tables) where
+  abbrev few : Bool
+  few = lacksRecords (length rs) (headerOf hs .w)
 
-  pub too-few : lacksRecords (length rs) (headerOf hs .w) ≡ true → none true ≡ askWords hs rs w ask ns bs
-  unfolding askWords
-  too-few e = ap (λ (a : Answer). lent (own (says a 0) hs rs) ns bs) (none-few (headerOf hs) (length ns) (length bs)) ∙ sym (pick-true _ _ _ e)
+  abbrev t : Turn
+  t = turnOf hs rs w
 
-  none-refuses : refuses (noneOf (headerOf hs) false (length ns) (length bs)) ≡ true
-  unfolding noneOf
-  none-refuses = both (λ (a : Answer). refuses a ≡ true) _ refl (both (λ (a : Answer). refuses a ≡ true) _ refl refl)
+  missing-refuses : (b : Bool) → refuses (missing (headerOf hs) b (lengths ts)) ≡ true
+  unfolding missing
+  missing-refuses b = both (λ (a : Answer). refuses a ≡ true) _ refl (both (λ (a : Answer). refuses a ≡ true) _ refl refl)
 
-  pub no-worker : lacksRecords (length rs) (headerOf hs .w) ≡ false → headerOf hs .w ≤ w → none false ≡ askWords hs rs w ask ns bs
-  unfolding askWords kept
-  no-worker e l =
-      let t = turnOf hs rs w in
-      let a = past-asked t ask ns bs (le-leb (headerOf hs .w) w l) ∙ ap (λ (n : Answer). after (refusedWith n t) ns bs) (sym (none-enough (headerOf hs) (length ns) (length bs))) in
-      ap (λ (o : Own). lent o ns bs) (sym (pick-true _ _ _ none-refuses))
-      ∙ ap (λ (k : After). lent (kept hs rs w (k .out)) (k .nodes) (k .buckets)) (sym a)
-      ∙ sym (pick-false _ _ _ e)
+  -- refused, the words are as they came
+  none : (b : Bool) → oneCall t few c ts ≡ left (refusedWith (missing (headerOf hs) b (lengths ts)) t) ts
+      → left (own (says (missing (headerOf hs) b (lengths ts)) 0) hs rs) ts ≡ callWords hs rs w c ts
+  unfolding kept
+  none b e = ap (λ (o : Own). left o ts) (sym (pick-true _ _ _ (missing-refuses b))) ∙ ap (λ (l : Left Outcome). left (kept hs rs w (l .out)) (l .tables)) (sym e)
+
+  pub too-few : few ≡ true → left (own (says (missing (headerOf hs) true (lengths ts)) 0) hs rs) ts ≡ callWords hs rs w c ts
+  unfolding oneCall
+  too-few e = none true (pick-true _ _ _ e ∙ ap (λ (b : Bool). left (refusedWith (missing (headerOf hs) b (lengths ts)) t) ts) e)
+
+  -- where there are enough records, the register's own call
+  pub there-is : few ≡ false → oneCall t few c ts ≡ askedOf t c ts
+  unfolding oneCall
+  there-is e = pick-false _ _ _ e
+
+  pub no-worker : few ≡ false → headerOf hs .w ≤ w → left (own (says (missing (headerOf hs) false (lengths ts)) 0) hs rs) ts ≡ callWords hs rs w c ts
+  no-worker e l = none false (there-is e ∙ past-asked t c ts (le-leb (headerOf hs .w) w l))
 
 -- ---- storing goes turn by turn
 -- a mark as a number is its word
@@ -77,10 +87,10 @@ laid-length zero ws at rs = refl
 laid-length (suc n) ws at rs = length-set (laid n ws at rs) (at + n) (getD ws n 0) ∙ laid-length n ws at rs
 
 -- a register that is prepared has at most 16 workers
-pub prepared-small : (l : Limits) (h : Header) (ns bs : List ℕ) → refuses (prepared l h ns bs .out .answer) ≡ false → l .w ≤ 16
+pub prepared-small : (l : Limits) (h : Header) (ts : Tables) → refuses (prepared l h ts .out .answer) ≡ false → l .w ≤ 16
 unfolding prepared prepareVerdict
-prepared-small l h ns bs = by (limitBroken (freshHeader l)) refl
+prepared-small l h ts = by (limitBroken (freshHeader l)) refl
   where
-    by : (t : Bool) → limitBroken (freshHeader l) ≡ t → refuses (prepared l h ns bs .out .answer) ≡ false → l .w ≤ 16
-    by true e r = absurd (true≢false (sym (ap (λ (v : Verdict). refuses (preparedBy l h ns bs v .out .answer)) (pick-true _ _ _ e)) ∙ r))
+    by : (t : Bool) → limitBroken (freshHeader l) ≡ t → refuses (prepared l h ts .out .answer) ≡ false → l .w ≤ 16
+    by true e r = absurd (true≢false (sym (ap (λ (v : Verdict). refuses (preparedBy l h ts v .out .answer)) (pick-true _ _ _ e)) ∙ r))
     by false e r = limits (freshHeader l) .sound e .workers .1

@@ -7,8 +7,9 @@ use contract.Lifetimes.{Lfts}
 use denote.Triple.Clauses.{AtExit}
 use denote.Ref.{now}
 use borrow.Fn.Kinds.{Dens, resT, endedOf}
+use Rattle.words.specs.Words.{Tables, tables, Left, left}
 use Rattle.welmuzra.specs.declared.Reply.{Reply}
-use Rattle.welmuzra.specs.Calls.{own, Lent, lent}
+use Rattle.welmuzra.specs.Calls.{Own, own}
 use Rattle.welmuzra.proofs.welmuzra_prepare.Reads as prepare
 use Rattle.welmuzra.proofs.welmuzra_prepare.Kinds as prepare-kinds
 use Rattle.welmuzra.proofs.welmuzra_start.Reads as start
@@ -17,26 +18,26 @@ use Rattle.welmuzra.proofs.welmuzra_step.Reads as step
 use Rattle.welmuzra.proofs.welmuzra_step.Kinds as step-kinds
 
 -- what two calls leave that leave the same: the same answer, and the same words of header, records, nodes and buckets
-same : (l : Lent) (x y : Reply) (hs hs′ rs rs′ ns ns′ bs bs′ : List ℕ) → lent (own x hs rs) ns bs ≡ l → lent (own y hs′ rs′) ns′ bs′ ≡ l
-    → (x ≡ y) × (hs ≡ hs′) × (rs ≡ rs′) × (ns ≡ ns′) × (bs ≡ bs′)
-same l x y hs hs′ rs rs′ ns ns′ bs bs′ p q =
+same : (l : Left Own) (x y : Reply) (hs hs′ rs rs′ : List ℕ) (ts ts′ : Tables) → left (own x hs rs) ts ≡ l → left (own y hs′ rs′) ts′ ≡ l
+    → (x ≡ y) × (hs ≡ hs′) × (rs ≡ rs′) × (ts .nodes ≡ ts′ .nodes) × (ts .buckets ≡ ts′ .buckets)
+same l x y hs hs′ rs rs′ ts ts′ p q =
     let e = p ∙ sym q in
-    (ap (λ (k : Lent). k .left .reply) e, ap (λ (k : Lent). k .left .header) e, ap (λ (k : Lent). k .left .records) e, ap (λ (k : Lent). k .nodes) e, ap (λ (k : Lent). k .buckets) e)
+    (ap (λ (k : Left Own). k .out .reply) e, ap (λ (k : Left Own). k .out .header) e, ap (λ (k : Left Own). k .out .records) e, ap (λ (k : Left Own). k .tables .nodes) e, ap (λ (k : Left Own). k .tables .buckets) e)
 
 -- two preparings on the same arguments
 pub prepare-same : (κs : Lfts 4) (a : Dens κs prepare-kinds.ps) (x y : resT prepare-kinds.r κs .Denot) (e f : AtExit (endedOf 4 prepare-kinds.ps prepare-kinds.r) κs)
     → prepare.Post κs a x e → prepare.Post κs a y f
     → (x ≡ y) × (now (e .0) ≡ now (f .0)) × (now (e .1 .0) ≡ now (f .1 .0)) × (now (e .1 .1 .0) ≡ now (f .1 .1 .0)) × (now (e .1 .1 .1 .0) ≡ now (f .1 .1 .1 .0))
-prepare-same κs a x y e f p q = same _ x y (now (e .0)) (now (f .0)) (now (e .1 .0)) (now (f .1 .0)) (now (e .1 .1 .0)) (now (f .1 .1 .0)) (now (e .1 .1 .1 .0)) (now (f .1 .1 .1 .0)) p q
+prepare-same κs a x y e f p q = same _ x y (now (e .0)) (now (f .0)) (now (e .1 .0)) (now (f .1 .0)) (tables (now (e .1 .1 .0)) (now (e .1 .1 .1 .0))) (tables (now (f .1 .1 .0)) (now (f .1 .1 .1 .0))) p q
 
 -- two starts
 pub start-same : (κs : Lfts 4) (a : Dens κs start-kinds.ps) (x y : resT start-kinds.r κs .Denot) (e f : AtExit (endedOf 4 start-kinds.ps start-kinds.r) κs)
     → start.Post κs a x e → start.Post κs a y f
     → (x ≡ y) × (now (e .0) ≡ now (f .0)) × (now (e .1 .0) ≡ now (f .1 .0)) × (now (e .1 .1 .0) ≡ now (f .1 .1 .0)) × (now (e .1 .1 .1 .0) ≡ now (f .1 .1 .1 .0))
-start-same κs a x y e f p q = same _ x y (now (e .0)) (now (f .0)) (now (e .1 .0)) (now (f .1 .0)) (now (e .1 .1 .0)) (now (f .1 .1 .0)) (now (e .1 .1 .1 .0)) (now (f .1 .1 .1 .0)) p q
+start-same κs a x y e f p q = same _ x y (now (e .0)) (now (f .0)) (now (e .1 .0)) (now (f .1 .0)) (tables (now (e .1 .1 .0)) (now (e .1 .1 .1 .0))) (tables (now (f .1 .1 .0)) (now (f .1 .1 .1 .0))) p q
 
 -- two steps
 pub step-same : (κs : Lfts 4) (a : Dens κs step-kinds.ps) (x y : resT step-kinds.r κs .Denot) (e f : AtExit (endedOf 4 step-kinds.ps step-kinds.r) κs)
     → step.Post κs a x e → step.Post κs a y f
     → (x ≡ y) × (now (e .0) ≡ now (f .0)) × (now (e .1 .0) ≡ now (f .1 .0)) × (now (e .1 .1 .0) ≡ now (f .1 .1 .0)) × (now (e .1 .1 .1 .0) ≡ now (f .1 .1 .1 .0))
-step-same κs a x y e f p q = same _ x y (now (e .0)) (now (f .0)) (now (e .1 .0)) (now (f .1 .0)) (now (e .1 .1 .0)) (now (f .1 .1 .0)) (now (e .1 .1 .1 .0)) (now (f .1 .1 .1 .0)) p q
+step-same κs a x y e f p q = same _ x y (now (e .0)) (now (f .0)) (now (e .1 .0)) (now (f .1 .0)) (tables (now (e .1 .1 .0)) (now (e .1 .1 .1 .0))) (tables (now (f .1 .1 .0)) (now (f .1 .1 .1 .0))) p q

@@ -4,6 +4,7 @@ use mathlib.Core.Bool.{true, false}
 use mathlib.Core.List.{List, [], _∷_, _++_}
 use mathlib.Core.Path.{_≡_}
 use lib.ListN.{length, getD}
+use Rattle.words.specs.Words.{Tables, lengths, Left, left}
 use Rattle.names.specs.Names.{numberOf, refuses}
 use Rattle.names.specs.declared.Answer.{Answer}
 use Rattle.names.specs.declared.Answer.the-variants.{Damaged}
@@ -12,11 +13,12 @@ use Rattle.header.specs.Header.{headerDamaged}
 use Rattle.record.specs.declared.Worker.{Worker}
 use Rattle.prepare.specs.declared.Limits.{Limits}
 use Rattle.header.specs.Header.{isShort}
-use Rattle.register.specs.declared.Ask.{Ask}
-use Rattle.crew.specs.Crew.{Left, stepAt, startAt, prepareAt}
+use Rattle.register.specs.declared.Call.{Call}
+use Rattle.register.specs.declared.Call.the-variants.{Start, Step}
+use Rattle.crew.specs.Crew.{Crew, callAt, prepareAt}
 use Rattle.welmuzra.specs.declared.Reply.{Reply}
-use Rattle.welmuzra.specs.Words.{RECORD, headerOf, headerWords, recordOf, recordWords}
-use Rattle.welmuzra.specs.Calls.{Own, own, Lent, lent, says, askWords, stepWords, startWords, prepareWords}
+use Rattle.welmuzra.specs.Words.{RECORD, MARK, headerOf, headerWords, recordOf, recordWords}
+use Rattle.welmuzra.specs.Calls.{Own, own, says, told, callWords, prepareWords}
 
 -- ---- there and back
 -- a header and a record are what their words are
@@ -43,28 +45,26 @@ pub record Refused (r : Reply) : Type 0 where
   pub refusal : refuses of ≡ true
   pub number : r .answer ≡ numberOf of
 
-abbrev pub AskUnchanged : Type 0
-AskUnchanged =
-    (hs rs : List ℕ) (w : ℕ) (ask : Ask) (ns bs : List ℕ) → Refused (askWords hs rs w ask ns bs .left .reply)
-    → askWords hs rs w ask ns bs ≡ lent (own (askWords hs rs w ask ns bs .left .reply) hs rs) ns bs
+abbrev pub CallUnchanged : Type 0
+CallUnchanged =
+    (hs rs : List ℕ) (w : ℕ) (c : Call) (ts : Tables) → Refused (callWords hs rs w c ts .out .reply)
+    → callWords hs rs w c ts ≡ left (own (callWords hs rs w c ts .out .reply) hs rs) ts
 
 abbrev pub PrepareUnchanged : Type 0
 PrepareUnchanged =
-    (l : Limits) (hs rs ns bs : List ℕ) → Refused (prepareWords l hs rs ns bs .left .reply)
-    → prepareWords l hs rs ns bs ≡ lent (own (prepareWords l hs rs ns bs .left .reply) hs rs) ns bs
+    (l : Limits) (hs rs : List ℕ) (ts : Tables) → Refused (prepareWords l hs rs ts .out .reply)
+    → prepareWords l hs rs ts ≡ left (own (prepareWords l hs rs ts .out .reply) hs rs) ts
 
 -- ---- a start writes neither nodes nor buckets
 abbrev pub StartWritesNeither : Type 0
-StartWritesNeither =
-    (hs rs : List ℕ) (w kind key : ℕ) (ns bs : List ℕ)
-    → (startWords hs rs w kind key ns bs .nodes ≡ ns) × (startWords hs rs w kind key ns bs .buckets ≡ bs)
+StartWritesNeither = (hs rs : List ℕ) (w kind key : ℕ) (ts : Tables) → callWords hs rs w (Start kind key) ts .tables ≡ ts
 
 -- ---- a mark that is neither 0 nor 1 makes no record: where header, lengths and worker's number pass, a step is 12
 abbrev pub NoRecord : Type 0
 NoRecord =
-    (hs rs : List ℕ) (w : ℕ) (ns bs : List ℕ) → headerDamaged (headerOf hs) ≡ false → headerOf hs .w * RECORD ≤ length rs
-    → isShort (headerOf hs) (length ns) (length bs) ≡ false → w < headerOf hs .w → 1 < getD rs (w * RECORD + 11) 0
-    → stepWords hs rs w ns bs ≡ lent (own (says Damaged 0) hs rs) ns bs
+    (hs rs : List ℕ) (w : ℕ) (ts : Tables) → headerDamaged (headerOf hs) ≡ false → headerOf hs .w * RECORD ≤ length rs
+    → isShort (headerOf hs) (lengths ts) ≡ false → w < headerOf hs .w → 1 < getD rs (w * RECORD + MARK) 0
+    → callWords hs rs w Step ts ≡ left (own (says Damaged 0) hs rs) ts
 
 -- ---- over the words of records
 -- the words of the records, side by side
@@ -73,20 +73,11 @@ packed [] = []
 packed (x ∷ xs) = recordWords x ++ packed xs
 
 -- the words of what a call over the lent table of records leaves
-abbrev pub ownOf : Left → Own
-ownOf l = own (says (l .called .answer) (l .called .steps)) (headerWords (l .called .header)) (packed (l .workers))
+abbrev pub wordsOf : Left Crew → Left Own
+wordsOf l = left (own (told (l .out .called)) (headerWords (l .out .called .header)) (packed (l .out .workers))) (l .tables)
 
-abbrev pub wordsOf : Left → Lent
-wordsOf l = lent (ownOf l) (l .nodes) (l .buckets)
-
-abbrev pub StepAsRecords : Type 0
-StepAsRecords = (h : Header) (ws : List Worker) (w : ℕ) (ns bs : List ℕ) → stepWords (headerWords h) (packed ws) w ns bs ≡ wordsOf (stepAt h ws w ns bs)
-
-abbrev pub StartAsRecords : Type 0
-StartAsRecords =
-    (h : Header) (ws : List Worker) (w kind key : ℕ) (ns bs : List ℕ)
-    → startWords (headerWords h) (packed ws) w kind key ns bs ≡ wordsOf (startAt h ws w kind key ns bs)
+abbrev pub CallAsRecords : Type 0
+CallAsRecords = (h : Header) (ws : List Worker) (w : ℕ) (c : Call) (ts : Tables) → callWords (headerWords h) (packed ws) w c ts ≡ wordsOf (callAt h ws w c ts)
 
 abbrev pub PrepareAsRecords : Type 0
-PrepareAsRecords =
-    (l : Limits) (h : Header) (ws : List Worker) (ns bs : List ℕ) → prepareWords l (headerWords h) (packed ws) ns bs ≡ wordsOf (prepareAt l h ws ns bs)
+PrepareAsRecords = (l : Limits) (h : Header) (ws : List Worker) (ts : Tables) → prepareWords l (headerWords h) (packed ws) ts ≡ wordsOf (prepareAt l h ws ts)

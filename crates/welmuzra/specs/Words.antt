@@ -21,6 +21,10 @@ headerWords h = h .m ∷ h .k ∷ h .w ∷ h .l ∷ h .size ∷ h .count ∷ h .
 abbrev pub RECORD : ℕ
 RECORD = 15
 
+-- the word of its mark
+abbrev pub MARK : ℕ
+MARK = 11
+
 -- the mark is 0 or 1; a word that is neither makes no record, and then the place is an unknown one
 unfoldable pub placeOf : ℕ → ℕ → ℕ
 placeOf mark place = pick (ltb 1 mark) (D6 + 1) place
@@ -42,14 +46,14 @@ recordWith place ws =
       prev = getD ws 8 0;
       cur = getD ws 9 0;
       next = getD ws 10 0;
-      marked = eqb (getD ws 11 0) 1;
+      marked = eqb (getD ws MARK 0) 1;
       held = getD ws 12 0;
       dummy = getD ws 13 0;
       steps = getD ws 14 0;
     }
 
 abbrev pub recordOf : List ℕ → Worker
-recordOf ws = recordWith (placeOf (getD ws 11 0) (getD ws 0 0)) ws
+recordOf ws = recordWith (placeOf (getD ws MARK 0) (getD ws 0 0)) ws
 
 abbrev pub recordWords : Worker → List ℕ
 recordWords x =

@@ -4,18 +4,25 @@ ghost use mathlib.Core.Bool.{false};
 ghost use Prim.Native.Nat.{_+_, _*_, _≤_};
 ghost use lib.ListN.{length};
 ghost use Rattle.names.specs.Names.{refuses};
-ghost use Rattle.crew.specs.One.{noneOf};
+ghost use Rattle.words.specs.Words.{tables, left};
+ghost use Rattle.register.specs.declared.Call.the-variants.{Start, Step};
 ghost use Rattle.welmuzra.specs.Words.{RECORD, headerOf, headerWords, placeOf, recordOf, recordWords, wordsAt, stored};
-ghost use Rattle.welmuzra.specs.Calls.{own, lent, lacksRecords, says, kept, askWords, stepWords, startWords, limits, readied, prepareWords};
+ghost use Rattle.welmuzra.specs.Calls.{own, lacksRecords, says, told, kept, callWords, limits, readied, prepareWords};
+use acts::Called;
+use acts::Outcome;
 use header::Header;
 use names::Answer;
 use names::place;
 use prepare::Limits;
-use prepare::Prepared;
 use record::Worker;
-use register::Ask;
+use register::Call;
 use register::Turn;
-use writes::Outcome;
+use words::Lengths;
+
+// The words of the header, and of a worker's record.
+const HEADER: usize = 7;
+
+const RECORD: usize = 15;
 
 // What a call answers: the scope paper's number, and at an ended answer the operation's steps.
 #[repr(C)]
@@ -25,7 +32,7 @@ pub struct Reply {
 }
 
 // The header that seven words are.
-fn header_of(words: [u32; 7]) -> Header
+fn header_of(words: [u32; HEADER]) -> Header
     ensures { λ r. ⌜ r ≡ headerOf words ⌝ }
 {
     Header {
@@ -40,7 +47,7 @@ fn header_of(words: [u32; 7]) -> Header
 }
 
 // The seven words of a header.
-fn header_words(h: Header) -> [u32; 7]
+fn header_words(h: Header) -> [u32; HEADER]
     ensures { λ r. ⌜ r ≡ headerWords h ⌝ }
 {
     [h.m, h.k, h.w, h.l, h.size, h.count, h.busy]
@@ -61,8 +68,8 @@ fn record_at(records: &[u32], w: u32) -> Worker
     requires { ⌜ w * RECORD + RECORD ≤ length (now records) ⌝ }
     ensures { λ r. ⌜ r ≡ recordOf (wordsAt (now (records .entry)) w) ⌝ }
 {
-    let at = (w as usize) * 15;
-    let words = &records[at..at + 15];
+    let at = (w as usize) * RECORD;
+    let words = &records[at..at + RECORD];
     Worker {
         place: place_of(words[11], words[0]),
         errand: words[1],
@@ -86,8 +93,8 @@ fn record_at(records: &[u32], w: u32) -> Worker
 fn store_record(records: &mut [u32], w: u32, x: Worker)
     ensures { λ _. ⌜ now (records .exit) ≡ stored (now (records .entry)) w (recordWords x) ⌝ }
 {
-    let at = (w as usize) * 15;
-    if records.len() < at + 15 {
+    let at = (w as usize) * RECORD;
+    if records.len() < at + RECORD {
         return;
     }
     let words = [
@@ -108,7 +115,7 @@ fn store_record(records: &mut [u32], w: u32, x: Worker)
         x.steps,
     ];
     let mut i: usize = 0;
-    while i < 15 {
+    while i < RECORD {
         records[at + i] = words[i];
         i += 1;
     }
@@ -118,7 +125,7 @@ fn store_record(records: &mut [u32], w: u32, x: Worker)
 fn lacks_records(len: usize, w: u32) -> bool
     ensures { λ r. ⌜ r ≡ lacksRecords len w ⌝ }
 {
-    (len as u64) < (w as u64) * 15
+    (len as u64) < (w as u64) * (RECORD as u64)
 }
 
 // What a refused call answers.
@@ -131,57 +138,53 @@ fn refused(answer: Answer) -> Reply
     }
 }
 
-// A worker that there is not: 12, then 11 where there are too few records or words, then 13.
-fn none(header: Header, few: bool, nodes: usize, buckets: usize) -> Answer
-    ensures { λ r. ⌜ r ≡ noneOf header few nodes buckets ⌝ }
+// What a call answers beside its words.
+fn told(called: Called) -> Reply
+    ensures { λ r. ⌜ r ≡ told called ⌝ }
 {
-    if header.damaged() {
-        return Answer::Damaged;
+    let answer = called.answer;
+    Reply {
+        answer: answer.number(),
+        steps: called.steps,
     }
-    if few | header.short(nodes, buckets) {
-        return Answer::Short;
-    }
-    Answer::NoWorker
 }
 
 // What a call hands back goes into the words, unless it is refused.
-fn keep(header: &mut [u32; 7], records: &mut [u32], w: u32, out: Outcome) -> Reply
+fn keep(header: &mut [u32; HEADER], records: &mut [u32], w: u32, out: Outcome) -> Reply
     ensures { λ r. ⌜ own r (now (header .exit)) (now (records .exit)) ≡ kept (now (header .entry)) (now (records .entry)) w out ⌝ }
 {
-    let answer = out.answer;
-    let number = answer.number();
+    let called = out.called;
+    let answer = called.answer;
     if answer.refuses() {
-        return Reply {
-            answer: number,
-            steps: out.steps,
-        };
+        return told(called);
     }
-    let words = header_words(out.header);
+    let words = header_words(called.header);
     *header = words;
     store_record(records, w, out.worker);
-    Reply {
-        answer: number,
-        steps: out.steps,
-    }
+    told(called)
 }
 
 // Worker w is called: the register's own call on the record that its words are.
 fn serve(
-    header: &mut [u32; 7],
+    header: &mut [u32; HEADER],
     records: &mut [u32],
     nodes: &mut [u32],
     buckets: &mut [u32],
     w: u32,
-    ask: Ask,
+    call: Call,
 ) -> Reply
-    ensures { λ r. ⌜ lent (own r (now (header .exit)) (now (records .exit))) (now (nodes .exit)) (now (buckets .exit)) ≡ askWords (now (header .entry)) (now (records .entry)) w ask (now (nodes .entry)) (now (buckets .entry)) ⌝ }
+    ensures { λ r. ⌜ left (own r (now (header .exit)) (now (records .exit))) (tables (now (nodes .exit)) (now (buckets .exit))) ≡ callWords (now (header .entry)) (now (records .entry)) w call (tables (now (nodes .entry)) (now (buckets .entry))) ⌝ }
 {
     let h = header_of(*header);
+    let lengths = Lengths {
+        nodes: nodes.len(),
+        buckets: buckets.len(),
+    };
     if lacks_records(records.len(), h.w) {
-        return refused(none(h, true, nodes.len(), buckets.len()));
+        return refused(h.missing(true, lengths));
     }
     if h.w <= w {
-        return refused(none(h, false, nodes.len(), buckets.len()));
+        return refused(h.missing(false, lengths));
     }
     let worker = record_at(&records[..], w);
     let turn = Turn {
@@ -189,28 +192,28 @@ fn serve(
         header: h,
         worker,
     };
-    let out = turn.call(ask, nodes, buckets);
+    let out = turn.call(call, nodes, buckets);
     keep(header, records, w, out)
 }
 
 // One step of worker w.
 #[no_mangle]
 pub extern "C" fn welmuzra_step(
-    header: &mut [u32; 7],
+    header: &mut [u32; HEADER],
     records: &mut [u32],
     nodes: &mut [u32],
     buckets: &mut [u32],
     w: u32,
 ) -> Reply
-    ensures { λ r. ⌜ lent (own r (now (header .exit)) (now (records .exit))) (now (nodes .exit)) (now (buckets .exit)) ≡ stepWords (now (header .entry)) (now (records .entry)) w (now (nodes .entry)) (now (buckets .entry)) ⌝ }
+    ensures { λ r. ⌜ left (own r (now (header .exit)) (now (records .exit))) (tables (now (nodes .exit)) (now (buckets .exit))) ≡ callWords (now (header .entry)) (now (records .entry)) w Step (tables (now (nodes .entry)) (now (buckets .entry))) ⌝ }
 {
-    serve(header, records, nodes, buckets, w, Ask::Step)
+    serve(header, records, nodes, buckets, w, Call::Step)
 }
 
 // Worker w starts an operation of this kind on this key; nodes and buckets stay as they are.
 #[no_mangle]
 pub extern "C" fn welmuzra_start(
-    header: &mut [u32; 7],
+    header: &mut [u32; HEADER],
     records: &mut [u32],
     nodes: &mut [u32],
     buckets: &mut [u32],
@@ -218,37 +221,30 @@ pub extern "C" fn welmuzra_start(
     kind: u32,
     key: u32,
 ) -> Reply
-    ensures { λ r. ⌜ lent (own r (now (header .exit)) (now (records .exit))) (now (nodes .exit)) (now (buckets .exit)) ≡ startWords (now (header .entry)) (now (records .entry)) w kind key (now (nodes .entry)) (now (buckets .entry)) ⌝ }
+    ensures { λ r. ⌜ left (own r (now (header .exit)) (now (records .exit))) (tables (now (nodes .exit)) (now (buckets .exit))) ≡ callWords (now (header .entry)) (now (records .entry)) w (Start kind key) (tables (now (nodes .entry)) (now (buckets .entry))) ⌝ }
 {
-    serve(header, records, nodes, buckets, w, Ask::Start { kind, key })
+    serve(header, records, nodes, buckets, w, Call::Start { kind, key })
 }
 
 // What preparing hands back goes into the words, unless it is refused.
-fn ready(header: &mut [u32; 7], records: &mut [u32], w: u32, out: Prepared) -> Reply
-    requires { ⌜ (refuses (out .answer) ≡ false → w ≤ 16) ⌝ }
-    ensures { λ r. ⌜ own r (now (header .exit)) (now (records .exit)) ≡ readied w (now (header .entry)) (now (records .entry)) out ⌝ }
+fn ready(header: &mut [u32; HEADER], records: &mut [u32], w: u32, called: Called) -> Reply
+    requires { ⌜ (refuses (called .answer) ≡ false → w ≤ 16) ⌝ }
+    ensures { λ r. ⌜ own r (now (header .exit)) (now (records .exit)) ≡ readied w (now (header .entry)) (now (records .entry)) called ⌝ }
 {
-    let answer = out.answer;
-    let number = answer.number();
+    let answer = called.answer;
     if answer.refuses() {
-        return Reply {
-            answer: number,
-            steps: 0,
-        };
+        return told(called);
     }
-    let words = header_words(out.header);
+    let words = header_words(called.header);
     *header = words;
-    scans::clear(records, w * 15);
-    Reply {
-        answer: number,
-        steps: 0,
-    }
+    scans::clear(records, w * (RECORD as u32));
+    told(called)
 }
 
 // A register of M buckets, K key nodes, W workers and load L.
 #[no_mangle]
 pub extern "C" fn welmuzra_prepare(
-    header: &mut [u32; 7],
+    header: &mut [u32; HEADER],
     records: &mut [u32],
     nodes: &mut [u32],
     buckets: &mut [u32],
@@ -257,12 +253,12 @@ pub extern "C" fn welmuzra_prepare(
     w: u32,
     l: u32,
 ) -> Reply
-    ensures { λ r. ⌜ lent (own r (now (header .exit)) (now (records .exit))) (now (nodes .exit)) (now (buckets .exit)) ≡ prepareWords (limits m k w l) (now (header .entry)) (now (records .entry)) (now (nodes .entry)) (now (buckets .entry)) ⌝ }
+    ensures { λ r. ⌜ left (own r (now (header .exit)) (now (records .exit))) (tables (now (nodes .exit)) (now (buckets .exit))) ≡ prepareWords (limits m k w l) (now (header .entry)) (now (records .entry)) (tables (now (nodes .entry)) (now (buckets .entry))) ⌝ }
 {
     let limits = Limits { m, k, w, l };
     if lacks_records(records.len(), w) {
         return refused(limits.too_few());
     }
-    let out = limits.prepare(header_of(*header), nodes, buckets);
-    ready(header, records, w, out)
+    let called = limits.prepare(header_of(*header), nodes, buckets);
+    ready(header, records, w, called)
 }

@@ -5,7 +5,8 @@ use native.Mathlib.Omega.{arith}
 use lib.ListN.{length}
 use borrow.Author.Needs.{needs}
 use borrow.Author.Tests.{not-true, not-false}
-use Rattle.crew.specs.Crew.{left}
+use Rattle.words.specs.Words.{tables, left}
+use Rattle.crew.specs.Crew.{crew}
 use Rattle.crew.proofs.Laws.{turns-left}
 use Rattle.replay.specs.Replay.{followed}
 use Rattle.text.proofs.Laying.{laid-on, laid-as}
@@ -17,7 +18,7 @@ use Rattle.replay.proofs.begin.Tie as tie
 abbrev Inv-loop : tie.InvT-loop
 Inv-loop schedule next nodes₀ buckets₀ out₀ bank₀ place₀ offset₀ turns₀ nodes buckets out bank place offset turns =
     (length nodes ≡ length nodes₀) × (length buckets ≡ length buckets₀) × (length out ≡ length out₀)
-    × Leads out place (followed schedule turns offset (left (bank .called) (bank .workers) nodes buckets)) out₀ place₀ (followed schedule turns₀ offset₀ (left (bank₀ .called) (bank₀ .workers) nodes₀ buckets₀))
+    × Leads out place (followed schedule turns offset (left (crew (bank .called) (bank .workers)) (tables nodes buckets))) out₀ place₀ (followed schedule turns₀ offset₀ (left (crew (bank₀ .called) (bank₀ .workers)) (tables nodes₀ buckets₀)))
 
 abbrev μ-loop : tie.MeasureT-loop
 μ-loop schedule next nodes₀ buckets₀ out₀ bank₀ place₀ offset₀ turns₀ nodes buckets out bank place offset turns = turns
@@ -54,7 +55,7 @@ returns c =
     let a = c .before .before .before .before .before .before .before .before .before .before .before .before .before .before .before .before .before .before .before .before .args in
     let r = c .before .before .before .before .before .before .before .before .before .before .before .before .ready in
     let t = c .before .before .before .before .before .before .goes-on in
-    laid-as (rw (c .before .before .before .number .ensures) (begun-refused (a .schedule .now) (a .next) _ (left (r .result .called) (r .result .workers) (r .last .1 .0) (r .last .1 .1 .0)) _ _ _ (r .ensures) (c .before .before .before .before .before .before .before .before .before .before .before .before .before .before .before .body-of .ensures) (c .before .before .before .before .before .before .before .answer-of .ensures) (sym (t .ensures) ∙ not-true (t .result) (c .before .before .before .before .before .if1 .taken)))) (c .before .before .put-refused .ensures)
+    laid-as (rw (c .before .before .before .number .ensures) (begun-refused (a .schedule .now) (a .next) _ (left (crew (r .result .called) (r .result .workers)) (tables (r .last .1 .0) (r .last .1 .1 .0))) _ _ (r .ensures) (c .before .before .before .before .before .before .before .before .before .before .before .before .before .before .before .body-of .ensures) (c .before .before .before .before .before .before .before .answer-of .ensures) (sym (t .ensures) ∙ not-true (t .result) (c .before .before .before .before .before .if1 .taken)))) (c .before .before .put-refused .ensures)
 
 put-first-requires : tie.Need-put-first-requires Inv-loop μ-loop
 put-first-requires c κs = tt
@@ -80,8 +81,8 @@ number-in-requires c κs = tt
 operation-of-requires : tie.Need-operation-of-requires Inv-loop μ-loop
 operation-of-requires c κs = tt
 
-call-requires : tie.Need-call-requires Inv-loop μ-loop
-call-requires c κs = tt
+play-requires : tie.Need-play-requires Inv-loop μ-loop
+play-requires c κs = tt
 
 answer-of-requires-2 : tie.Need-answer-of-requires-2 Inv-loop μ-loop
 answer-of-requires-2 c κs = tt
@@ -98,13 +99,13 @@ loop-less c = omega (arith, turns-left (c .before .before .before .before .befor
 loop-again : tie.Need-loop-again Inv-loop μ-loop
 loop-again c =
     let p = c .before .before .put-call in
-    let m = c .before .before .before .before .before .before .before .before .before .call in
+    let m = c .before .before .before .before .before .before .before .before .before .play in
     let l = c .before .before .before .before .before .before .before .before .before .before .before .before .before .before .before .before .before .before .before .before .loop in
     let test = rw (c .before .before .before .before .before .before .before .before .before .before .before .before .before .before .before .before .before .before .before .is-played .ensures) at (c .before .before .before .before .before .before .before .before .before .before .before .before .before .before .before .before .before .before .if2 .taken) in (
       m .kept .1 .1 .1 .1 .1 .0 ∙ l .inv .0,
       m .kept .1 .1 .1 .1 .1 .1 .0 ∙ l .inv .1,
       p .kept .0 ∙ l .inv .2,
-      leads-on (c .before .before .before .before .before .before .before .before .before .before .before .before .before .before .before .before .before .before .before .before .before .before .before .before .before .before .before .before .before .before .before .before .before .before .before .before .before .before .before .before .args .schedule .now) (l .turns) (l .offset) (left (l .bank .called) (l .bank .workers) (l .nodes) (l .buckets)) {m = left (m .result .called) (m .result .workers) (m .last .1 .1 .1 .1 .1 .0) (m .last .1 .1 .1 .1 .1 .1 .0)} (l .inv .3) test
+      leads-on (c .before .before .before .before .before .before .before .before .before .before .before .before .before .before .before .before .before .before .before .before .before .before .before .before .before .before .before .before .before .before .before .before .before .before .before .before .before .before .before .before .args .schedule .now) (l .turns) (l .offset) (left (crew (l .bank .called) (l .bank .workers)) (tables (l .nodes) (l .buckets))) {m = left (crew (m .result .called) (m .result .workers)) (tables (m .last .1 .1 .1 .1 .1 .0) (m .last .1 .1 .1 .1 .1 .1 .0))} (l .inv .3) test
           (c .before .before .before .before .before .before .before .before .before .before .before .before .before .before .before .before .before .stand-at .ensures) (c .before .before .before .before .before .before .before .before .before .before .before .before .before .before .before .before .body-of2 .ensures) (c .before .before .before .before .before .before .before .before .before .before .before .before .before .before .before .byte-at .ensures) (c .before .before .before .before .before .before .before .before .before .before .before .before .before .before .number-in .ensures) (c .before .before .before .before .before .before .before .before .before .before .before .before .operation-of .ensures) (m .ensures) (c .before .before .before .before .answer-of2 .ensures) (p .ensures),
     )
 
@@ -129,9 +130,9 @@ returns-2 c =
     let r = c .before .before .before .before .before .before .before .before .before .before .before .before .before .before .before .before .before .before .before .before .before .before .before .ready in
     let l = c .before .before .before .before .before .before .before .before .before .before .before .loop in
     let test = rw (c .before .before .before .before .before .before .before .before .before .before .is-played .ensures) at (c .before .before .before .before .before .before .before .before .before .if2 .left) in
-    let rest = l .inv .3 _ _ (laid-as (sym (followed-stop (a .schedule .now) (l .turns) (l .offset) (left (l .bank .called) (l .bank .workers) (l .nodes) (l .buckets)) test)) (laid-on (c .before .before .before .before .before .before .before .put-stop .ensures) (c .before .before .put-last .ensures))) in
+    let rest = l .inv .3 _ _ (laid-as (sym (followed-stop (a .schedule .now) (l .turns) (l .offset) (left (crew (l .bank .called) (l .bank .workers)) (tables (l .nodes) (l .buckets))) test)) (laid-on (c .before .before .before .before .before .before .before .put-stop .ensures) (c .before .before .put-last .ensures))) in
     let t = c .before .before .before .before .before .before .before .before .before .before .before .before .before .before .before .before .before .goes-on in
-    laid-as (begun-on (a .schedule .now) (a .next) _ (left (r .result .called) (r .result .workers) (r .last .1 .0) (r .last .1 .1 .0)) _ _ _ (r .ensures) (c .before .before .before .before .before .before .before .before .before .before .before .before .before .before .before .before .before .before .before .before .before .before .before .before .before .before .body-of .ensures) (c .before .before .before .before .before .before .before .before .before .before .before .before .before .before .before .before .before .before .answer-of .ensures) (sym (t .ensures) ∙ not-false (t .result) (c .before .before .before .before .before .before .before .before .before .before .before .before .before .before .before .before .if1 .left))) (laid-on (c .before .before .before .before .before .before .before .before .before .before .before .before .before .before .put-first .ensures) rest)
+    laid-as (begun-on (a .schedule .now) (a .next) _ (left (crew (r .result .called) (r .result .workers)) (tables (r .last .1 .0) (r .last .1 .1 .0))) _ _ (r .ensures) (c .before .before .before .before .before .before .before .before .before .before .before .before .before .before .before .before .before .before .before .before .before .before .before .before .before .before .body-of .ensures) (c .before .before .before .before .before .before .before .before .before .before .before .before .before .before .before .before .before .before .answer-of .ensures) (sym (t .ensures) ∙ not-false (t .result) (c .before .before .before .before .before .before .before .before .before .before .before .before .before .before .before .before .if1 .left))) (laid-on (c .before .before .before .before .before .before .before .before .before .before .before .before .before .before .put-first .ensures) rest)
 
 pub begin-spec : {M : Type 1} → statement M
 begin-spec =
@@ -157,7 +158,7 @@ begin-spec =
     byte-at-requires
     number-in-requires
     operation-of-requires
-    call-requires
+    play-requires
     answer-of-requires-2
     put-call-requires
     sub-turns

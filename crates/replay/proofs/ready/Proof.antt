@@ -1,7 +1,7 @@
 -- What is handed to the bank is what the definition names.
 -- Assumes nothing.
 use borrow.Author.Needs.{needs}
-use Rattle.replay.specs.Play.{prepared}
+use Rattle.replay.specs.Play.{opened}
 use Rattle.replay.proofs.ready.Statement.{statement}
 use Rattle.replay.proofs.ready.Tie as tie
 
@@ -24,7 +24,7 @@ same-length-2 : tie.Need-same-length-2
 same-length-2 c = search needs
 
 returns : tie.Need-returns
-unfolding prepared
+unfolding opened
 returns c = rw (← (c .before .before .before .before .before .before .before .before .before .limits-of .ensures), ← (c .before .before .before .before .before .before .before .before .idle .ensures), ← (c .before .before .before .before .before .before .before .fresh .ensures)) (c .before .before .before .before .prepare .ensures)
 
 pub ready-spec : {M : Type 1} → statement M

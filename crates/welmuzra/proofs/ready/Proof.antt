@@ -8,24 +8,30 @@ use Rattle.welmuzra.specs.Calls.{readied}
 use Rattle.welmuzra.proofs.ready.Statement.{statement}
 use Rattle.welmuzra.proofs.ready.Tie as tie
 
-number-requires : tie.Need-number-requires
-number-requires c κs = tt
-
 refuses-requires : tie.Need-refuses-requires
 refuses-requires c κs = tt
 
+told-requires : tie.Need-told-requires
+told-requires c κs = tt
+
 returns : tie.Need-returns
 unfolding readied
-returns c = then-is _ _ _ _ (sym (c .before .refuses .ensures) ∙ c .if1 .taken) (rw (c .before .before .number .ensures))
+returns c = then-is _ _ _ _ (sym (c .before .before .refuses .ensures) ∙ c .before .if1 .taken) (rw (c .told .ensures))
 
 header-words-requires : tie.Need-header-words-requires
 header-words-requires c κs = tt
 
+cast-clear : tie.Need-cast-clear
+cast-clear c = search needs
+
 mul-clear : tie.Need-mul-clear
-mul-clear c = omega (arith, c .before .before .before .before .before .before .pre (sym (c .before .before .before .refuses .ensures) ∙ c .before .before .if1 .left))
+mul-clear c = omega (arith, c .before .before .before .before .before .pre (sym (c .before .before .before .refuses .ensures) ∙ c .before .before .if1 .left))
 
 clear-requires : tie.Need-clear-requires
 clear-requires c κs = tt
+
+told-requires-2 : tie.Need-told-requires-2
+told-requires-2 c κs = tt
 
 same-length : tie.Need-same-length
 same-length c = search needs
@@ -33,8 +39,8 @@ same-length c = search needs
 returns-2 : tie.Need-returns-2
 unfolding readied
 returns-2 c =
-    else-is _ _ _ _ (sym (c .before .before .before .before .before .before .refuses .ensures) ∙ c .before .before .before .before .before .if1 .left)
-    (rw (c .before .before .before .before .before .before .before .number .ensures, c .before .before .before .before .header-words .ensures, c .before .before .clear .ensures))
+    else-is _ _ _ _ (sym (c .before .before .before .before .before .before .before .refuses .ensures) ∙ c .before .before .before .before .before .before .if1 .left)
+    (rw (c .told2 .ensures, c .before .before .before .before .before .header-words .ensures, c .before .before .before .clear .ensures))
 
 pub ready-spec : {M : Type 1} → statement M
-ready-spec = tie.close (tie.spec number-requires refuses-requires returns header-words-requires mul-clear clear-requires same-length returns-2)
+ready-spec = tie.close (tie.spec refuses-requires told-requires returns header-words-requires cast-clear mul-clear clear-requires told-requires-2 same-length returns-2)

@@ -3,10 +3,10 @@
 use mathlib.Core.Path.{sym, ap, _∙_}
 use denote.Ref.{now}
 use borrow.Author.Needs.{needs}
-use Rattle.choice.proofs.Auto.{else-is}
-use Rattle.writes.specs.Carry.{After}
-use Rattle.welmuzra.specs.Calls.{lent, kept, askWords}
-use Rattle.welmuzra.proofs.Laws.{has-record, too-few, no-worker}
+use Rattle.words.specs.Words.{tables, Left, left}
+use Rattle.acts.specs.declared.Outcome.{Outcome}
+use Rattle.welmuzra.specs.Calls.{kept}
+use Rattle.welmuzra.proofs.Laws.{has-record, too-few, no-worker, there-is}
 use Rattle.welmuzra.proofs.serve.Statement.{statement}
 use Rattle.welmuzra.proofs.serve.Tie as tie
 
@@ -16,8 +16,8 @@ header-of-requires c κs = tt
 lacks-records-requires : tie.Need-lacks-records-requires
 lacks-records-requires c κs = tt
 
-none-requires : tie.Need-none-requires
-none-requires c κs = tt
+missing-requires : tie.Need-missing-requires
+missing-requires c κs = tt
 
 refused-requires : tie.Need-refused-requires
 refused-requires c κs = tt
@@ -25,10 +25,10 @@ refused-requires c κs = tt
 returns : tie.Need-returns
 returns c =
     let e = c .before .before .before .before .header-of .ensures in
-    rw (c .refused .ensures, c .before .none .ensures, e) (too-few _ _ _ _ _ _ (rw e at (sym (c .before .before .before .lacks-records .ensures) ∙ c .before .before .if1 .taken)))
+    rw (c .refused .ensures, c .before .missing .ensures, e) (too-few _ _ _ _ _ (rw e at (sym (c .before .before .before .lacks-records .ensures) ∙ c .before .before .if1 .taken)))
 
-none-requires-2 : tie.Need-none-requires-2
-none-requires-2 c κs = tt
+missing-requires-2 : tie.Need-missing-requires-2
+missing-requires-2 c κs = tt
 
 refused-requires-2 : tie.Need-refused-requires-2
 refused-requires-2 c κs = tt
@@ -36,7 +36,7 @@ refused-requires-2 c κs = tt
 returns-2 : tie.Need-returns-2
 returns-2 c =
     let e = c .before .before .before .before .before .before .header-of .ensures in
-    rw (c .refused2 .ensures, c .before .none2 .ensures, e) (no-worker _ _ _ _ _ _ (rw e at (sym (c .before .before .before .before .before .lacks-records .ensures) ∙ c .before .before .before .before .if1 .left)) (rw e at (c .before .before .if2 .taken)))
+    rw (c .refused2 .ensures, c .before .missing2 .ensures, e) (no-worker _ _ _ _ _ (rw e at (sym (c .before .before .before .before .before .lacks-records .ensures) ∙ c .before .before .before .before .if1 .left)) (rw e at (c .before .before .if2 .taken)))
 
 record-at-requires : tie.Need-record-at-requires
 record-at-requires c κs = has-record _ _ _ (sym (c .before .before .before .before .lacks-records .ensures) ∙ c .before .before .before .if1 .left) (c .before .if2 .left)
@@ -57,13 +57,13 @@ same-length-3 : tie.Need-same-length-3
 same-length-3 c = search needs
 
 returns-3 : tie.Need-returns-3
-unfolding askWords
 returns-3 c =
     let a = c .before .before .before .before .before .before .before .before .before .before .before .before .before .before .before .before .before .before .before .before .before .before .before .args in
     let e = c .before .before .before .before .before .before .before .before .before .before .before .before .before .before .before .before .before .before .header-of .ensures in
-    else-is _ _ _ _ (rw e at (sym (c .before .before .before .before .before .before .before .before .before .before .before .before .before .before .before .before .before .lacks-records .ensures) ∙ c .before .before .before .before .before .before .before .before .before .before .before .before .before .before .before .before .if1 .left))
-    (rw (c .before .before .keep .ensures)
-    (ap (λ (k : After). lent (kept (now (a .header)) (now (a .records)) (a .w) (k .out)) (k .nodes) (k .buckets)) (rw (c .before .before .before .before .before .before .before .before .before .before .before .before .record-at .ensures, e) at (c .before .before .before .before .before .before .before .before .before .call .ensures))))
+    rw (c .before .before .keep .ensures)
+    (ap (λ (l : Left Outcome). left (kept (now (a .header)) (now (a .records)) (a .w) (l .out)) (l .tables))
+    (rw (c .before .before .before .before .before .before .before .before .before .before .before .before .record-at .ensures, e) at (c .before .before .before .before .before .before .before .before .before .call .ensures)
+    ∙ sym (there-is (now (a .header)) (now (a .records)) (a .w) (a .call) (tables (now (a .nodes)) (now (a .buckets))) (rw e at (sym (c .before .before .before .before .before .before .before .before .before .before .before .before .before .before .before .before .before .lacks-records .ensures) ∙ c .before .before .before .before .before .before .before .before .before .before .before .before .before .before .before .before .if1 .left)))))
 
 pub serve-spec : {M : Type 1} → statement M
 serve-spec =
@@ -71,10 +71,10 @@ serve-spec =
     (tie.spec
     header-of-requires
     lacks-records-requires
-    none-requires
+    missing-requires
     refused-requires
     returns
-    none-requires-2
+    missing-requires-2
     refused-requires-2
     returns-2
     record-at-requires

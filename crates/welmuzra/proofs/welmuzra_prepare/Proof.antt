@@ -3,9 +3,10 @@
 use mathlib.Core.Path.{sym, ap, _∙_}
 use denote.Ref.{now}
 use Rattle.choice.proofs.Auto.{then-is, else-is}
-use Rattle.prepare.specs.Prepare.{Kept}
+use Rattle.words.specs.Words.{Left, left}
+use Rattle.acts.specs.declared.Called.{Called}
 use Rattle.names.specs.Names.{refuses}
-use Rattle.welmuzra.specs.Calls.{lent, readied, prepareWords}
+use Rattle.welmuzra.specs.Calls.{readied, prepareWords}
 use Rattle.welmuzra.proofs.Laws.{prepared-small}
 use borrow.Author.Needs.{needs}
 use Rattle.welmuzra.proofs.welmuzra_prepare.Statement.{statement}
@@ -32,7 +33,7 @@ prepare-requires : tie.Need-prepare-requires
 prepare-requires c κs = tt
 
 ready-requires : tie.Need-ready-requires
-ready-requires c κs = λ r. prepared-small _ _ _ _ (ap (λ (k : Kept). refuses (k .out .answer)) (sym (c .before .before .before .before .before .before .prepare .ensures)) ∙ r)
+ready-requires c κs = λ r. prepared-small _ _ _ (ap (λ (l : Left Called). refuses (l .out .answer)) (sym (c .before .before .before .before .before .before .prepare .ensures)) ∙ r)
 
 same-length : tie.Need-same-length
 same-length c = search needs
@@ -49,7 +50,7 @@ returns-2 c =
     let a = c .before .before .before .before .before .before .before .before .before .before .before .before .before .before .before .before .before .before .before .args in
     else-is _ _ _ _ (sym (c .before .before .before .before .before .before .before .before .before .before .before .before .before .before .before .lacks-records .ensures) ∙ c .before .before .before .before .before .before .before .before .before .before .before .before .before .before .if1 .left)
     (rw (c .before .before .ready .ensures)
-    (ap (λ (k : Kept). lent (readied (a .w) (now (a .header)) (now (a .records)) (k .out)) (k .nodes) (k .buckets))
+    (ap (λ (l : Left Called). left (readied (a .w) (now (a .header)) (now (a .records)) (l .out)) (l .tables))
     (rw (c .before .before .before .before .before .before .before .before .before .before .before .before .header-of .ensures) at (c .before .before .before .before .before .before .before .before .before .prepare .ensures))))
 
 pub welmuzra-prepare-spec : {M : Type 1} → statement M
