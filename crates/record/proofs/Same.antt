@@ -2,8 +2,6 @@
 -- Assumes nothing.
 use mathlib.Core.Path.{sym, _∙_}
 use Rattle.choice.proofs.Same.{Determined}
-use Rattle.record.proofs.Worker.fresh.Reads as fresh
-use Rattle.record.proofs.Worker.fresh.Kinds as fresh-kinds
 use Rattle.record.proofs.Worker.idle.Reads as idle
 use Rattle.record.proofs.Worker.idle.Kinds as idle-kinds
 use Rattle.record.proofs.Worker.begun.Reads as begun
@@ -32,9 +30,6 @@ use Rattle.record.proofs.Worker.ticked.Reads as ticked
 use Rattle.record.proofs.Worker.ticked.Kinds as ticked-kinds
 use Rattle.record.proofs.Worker.holds.Reads as holds
 use Rattle.record.proofs.Worker.holds.Kinds as holds-kinds
-
-pub fresh-same : Determined 0 fresh-kinds.ps fresh-kinds.r fresh.Post
-fresh-same κs a x y e f p q = p ∙ sym q
 
 pub idle-same : Determined 0 idle-kinds.ps idle-kinds.r idle.Post
 idle-same κs a x y e f p q = p ∙ sym q

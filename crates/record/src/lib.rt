@@ -53,8 +53,8 @@ fn tick(steps: u32) -> u32
 }
 
 impl Worker {
-    // A record of this place, kind and key, all else 0; at IDLE, with kind and key 0, it is the idle one.
-    pub fn fresh(place: u32, kind: u32, key: u32) -> Worker
+    // A record of this place, kind and key, all else 0.
+    fn fresh(place: u32, kind: u32, key: u32) -> Worker
         ensures { λ r. ⌜ r ≡ fresh place kind key ⌝ }
     {
         Worker {

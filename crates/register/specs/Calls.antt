@@ -4,7 +4,6 @@ use mathlib.Core.Bool.{not, _||_}
 use mathlib.Core.List.{[], _∷_}
 use lib.Dec.{ltb, leb, eqb}
 use Rattle.choice.specs.Table.{firstOf}
-use Rattle.sets.specs.Sets.{raised}
 use Rattle.words.specs.declared.Lengths.{Lengths}
 use Rattle.words.specs.Words.{Tables, lengths, Left, left}
 use Rattle.names.specs.Names.{IDLE, INSERT, DELETE, KEY-LIMIT}
@@ -12,7 +11,7 @@ use Rattle.names.specs.declared.Answer.the-variants.{Going, Short, Damaged, NoW
 use Rattle.names.specs.declared.Verdict.{Verdict}
 use Rattle.names.specs.declared.Verdict.the-variants.{Pass, Refused}
 use Rattle.names.specs.Verdicts.{refusedIf}
-use Rattle.header.specs.Header.{headerDamaged, isShort, busied}
+use Rattle.header.specs.Header.{busyWith, headerDamaged, isShort}
 use Rattle.record.specs.Worker.{begun}
 use Rattle.faults.specs.Faults.{workerDamaged}
 use Rattle.moves.specs.Moves.{decided}
@@ -40,7 +39,7 @@ startVerdict t kind key lengths =
 -- starting is private: it sets the busy bit and the record
 abbrev pub startedBy : Turn → ℕ → ℕ → Verdict → Outcome
 startedBy t kind key (Refused a) = refusedWith a t
-startedBy t kind key Pass = handedBack Going (busied (raised (t .number) (t .header .busy)) (t .header)) (begun kind key)
+startedBy t kind key Pass = handedBack Going (busyWith (t .number) (t .header)) (begun kind key)
 
 -- of the lent tables a start looks at their lengths alone, and it writes neither
 unfoldable pub startOf : Turn → ℕ → ℕ → Lengths → Outcome

@@ -1,6 +1,5 @@
 // The register by value: starting an operation, and one step of one worker.
 ghost use mathlib.Core.Path.{_≡_};
-ghost use Rattle.record.specs.Worker.{begun};
 ghost use Rattle.moves.specs.Moves.{decided};
 ghost use Rattle.words.specs.Words.{tables, left};
 ghost use Rattle.register.specs.Calls.{startedBy, steppedBy, askedOf};
@@ -31,16 +30,6 @@ pub struct Turn {
     pub number: u32,
     pub header: Header,
     pub worker: Worker,
-}
-
-// The record as an operation starts: an insert at I1, find and delete at SZ.
-fn begun(kind: u32, key: u32) -> Worker
-    ensures { λ r. ⌜ r ≡ begun kind key ⌝ }
-{
-    if kind == kind::INSERT {
-        return Worker::fresh(place::I1, kind, key);
-    }
-    Worker::fresh(place::SZ, kind, key)
 }
 
 // 17, 14: a start of an unknown kind, or on a key above the limit.
@@ -113,10 +102,8 @@ impl Turn {
         if self.worker.place != place::IDLE {
             return self.refused(Answer::IsBusy);
         }
-        let mut header = self.header;
-        header.busy = sets::with_bit(header.busy, self.number);
-        let worker = begun(kind, key);
-        let called = Called::answered(Answer::Going, header);
+        let called = Called::answered(Answer::Going, self.header.busy_with(self.number));
+        let worker = Worker::begun(kind, key);
         Outcome { called, worker }
     }
 

@@ -3,13 +3,12 @@ use Prim.Native.Nat.{ℕ}
 use mathlib.Core.List.{List}
 use Rattle.words.specs.Words.{Tables, tables, Left, left, STANDING, put}
 use Rattle.scans.specs.Scans.{sweep}
-use Rattle.sets.specs.Sets.{dropped}
 use Rattle.names.specs.declared.Answer.{Answer}
 use Rattle.names.specs.declared.Answer.the-variants.{Going as GoingOn, Damaged as IsDamaged}
 use Rattle.header.specs.declared.Header.{Header}
-use Rattle.header.specs.Header.{busied}
+use Rattle.header.specs.Header.{busyWithout}
 use Rattle.record.specs.declared.Worker.{Worker}
-use Rattle.record.specs.Worker.{idle, tick, ticked, heldKey, heldDummy}
+use Rattle.record.specs.Worker.{idle, ticked, heldKey, heldDummy}
 use Rattle.acts.specs.declared.Outcome.{Outcome}
 use Rattle.acts.specs.Acts.{handedBack}
 use Rattle.acts.specs.declared.Effect.{Effect}
@@ -26,16 +25,14 @@ unfoldable pub closedBy : ℕ → ℕ → Worker → List ℕ → List ℕ
 closedBy last w x ns = sweep w last (put (put ns (heldKey x) STANDING 0) (heldDummy x) STANDING 0)
 
 -- the record is idle with zeros, the busy bit is cleared, and the ending step is counted in
-abbrev pub ending : ℕ → Header → ℕ → Answer → Effect → Outcome
-ending w h steps a e =
-    let h′ = headerAfter e h in
-    record { called = record { answer = a; steps = tick steps; header = busied (dropped w (h′ .busy)) h′ }; worker = idle }
+abbrev pub ending : ℕ → Header → Worker → Answer → Effect → Outcome
+ending w h x a e = record { called = record { answer = a; steps = ticked x .steps; header = busyWithout w (headerAfter e h) }; worker = idle }
 
 -- ---- a decision carried out for worker w, with its header and record: what it hands back
 abbrev pub outcomeOf : ℕ → Header → Worker → Move → Outcome
 outcomeOf w h x Damaged = handedBack IsDamaged h x
 outcomeOf w h x (Going y e) = onward y e h
-outcomeOf w h x (Ended a e) = ending w h (x .steps) a e
+outcomeOf w h x (Ended a e) = ending w h x a e
 
 -- what it leaves in the nodes, where the last node is `last`
 abbrev pub nodesLeft : ℕ → ℕ → Worker → Move → List ℕ → List ℕ

@@ -1,7 +1,6 @@
 // A decision carried out: what a step's write leaves in the lent tables and in the header, and at an ended answer the operation closed.
 ghost use mathlib.Core.Path.{_≡_};
 ghost use Rattle.words.specs.Words.{tables, left, LINK, put, linkWord, linkTo};
-ghost use Rattle.record.specs.Worker.{tick};
 ghost use Rattle.acts.specs.Acts.{handedBack};
 ghost use Rattle.writes.specs.Writes.{isNothing, taken, tablesAfter, headerAfter};
 ghost use Rattle.writes.specs.Carry.{onward, closedBy, ending, carriedBy};
@@ -11,7 +10,6 @@ use acts::Move;
 use acts::Outcome;
 use header::Header;
 use names::Answer;
-use names::place;
 use record::Worker;
 
 // A link as one word: twice the number of the next node, and the mark. What passes 32 bits is cut.
@@ -103,45 +101,28 @@ fn write(effect: Effect, nodes: &mut [u32], buckets: &mut [u32])
 fn written(effect: Effect, header: Header) -> Header
     ensures { λ r. ⌜ r ≡ headerAfter effect header ⌝ }
 {
-    let mut h = header;
     match effect {
-        Effect::Count { value } => {
-            h.count = value;
-            h
-        }
-        Effect::Size { value } => {
-            h.size = value;
-            h
-        }
-        Effect::Nothing => h,
-        Effect::TakeKey { node: _, split: _ } => h,
-        Effect::TakeDummy { node: _, split: _ } => h,
-        Effect::Free { node: _ } => h,
-        Effect::Aim { node: _, next: _ } => h,
+        Effect::Count { value } => header.counting(value),
+        Effect::Size { value } => header.resized(value),
+        Effect::Nothing => header,
+        Effect::TakeKey { node: _, split: _ } => header,
+        Effect::TakeDummy { node: _, split: _ } => header,
+        Effect::Free { node: _ } => header,
+        Effect::Aim { node: _, next: _ } => header,
         Effect::Place {
             node: _,
             next: _,
             prev: _,
-        } => h,
-        Effect::Mark { node: _, next: _ } => h,
+        } => header,
+        Effect::Mark { node: _, next: _ } => header,
         Effect::Unlink {
             prev: _,
             next: _,
             node: _,
             busy: _,
-        } => h,
-        Effect::Store { bucket: _, node: _ } => h,
+        } => header,
+        Effect::Store { bucket: _, node: _ } => header,
     }
-}
-
-// One step more, up to the ceiling.
-fn tick(steps: u32) -> u32
-    ensures { λ r. ⌜ r ≡ tick steps ⌝ }
-{
-    if steps < names::CEILING {
-        return steps + 1;
-    }
-    steps
 }
 
 // Header and record, with an answer that tells no steps.
@@ -156,10 +137,7 @@ fn handed_back(answer: Answer, header: Header, worker: Worker) -> Outcome
 fn onward(worker: Worker, effect: Effect, header: Header) -> Outcome
     ensures { λ r. ⌜ r ≡ onward worker effect header ⌝ }
 {
-    let header = written(effect, header);
-    let mut worker = worker;
-    worker.steps = tick(worker.steps);
-    handed_back(Answer::Going, header, worker)
+    handed_back(Answer::Going, written(effect, header), worker.ticked())
 }
 
 // At an ended answer the nodes still held are free, and the worker's bit leaves each standing that is a set.
@@ -173,17 +151,17 @@ fn close(last: u32, number: u32, worker: Worker, nodes: &mut [u32])
 }
 
 // The record is idle, the busy bit is cleared, and the ending step is counted in.
-fn ending(number: u32, header: Header, steps: u32, answer: Answer, effect: Effect) -> Outcome
-    ensures { λ r. ⌜ r ≡ ending number header steps answer effect ⌝ }
+fn ending(number: u32, header: Header, worker: Worker, answer: Answer, effect: Effect) -> Outcome
+    ensures { λ r. ⌜ r ≡ ending number header worker answer effect ⌝ }
 {
-    let mut header = written(effect, header);
-    header.busy = sets::without(header.busy, number);
-    let worker = Worker::fresh(place::IDLE, 0, 0);
+    let header = written(effect, header).busy_without(number);
+    let last = worker.ticked();
     let called = Called {
         answer,
-        steps: tick(steps),
+        steps: last.steps,
         header,
     };
+    let worker = Worker::idle();
     Outcome { called, worker }
 }
 
@@ -214,7 +192,7 @@ pub fn carry(
         Move::Ended { answer, effect } => {
             write(effect, nodes, buckets);
             close(last, number, worker, nodes);
-            ending(number, header, worker.steps, answer, effect)
+            ending(number, header, worker, answer, effect)
         }
     }
 }

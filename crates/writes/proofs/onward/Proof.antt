@@ -6,14 +6,14 @@ use Rattle.writes.proofs.onward.Tie as tie
 written-requires : tie.Need-written-requires
 written-requires c κs = tt
 
-tick-requires : tie.Need-tick-requires
-tick-requires c κs = tt
+ticked-requires : tie.Need-ticked-requires
+ticked-requires c κs = tt
 
 handed-back-requires : tie.Need-handed-back-requires
 handed-back-requires c κs = tt
 
 returns : tie.Need-returns
-returns c = rw (c .handed-back .ensures, c .before .tick .ensures, c .before .before .written .ensures)
+returns c = rw (c .handed-back .ensures, c .before .ticked .ensures, c .before .before .written .ensures)
 
 pub onward-spec : {M : Type 1} → statement M
-onward-spec = tie.close (tie.spec written-requires tick-requires handed-back-requires returns)
+onward-spec = tie.close (tie.spec written-requires ticked-requires handed-back-requires returns)

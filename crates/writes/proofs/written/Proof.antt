@@ -7,8 +7,14 @@ use Rattle.writes.proofs.written.Tie as tie
 enum-known-effect : tie.Need-enum-known-effect
 enum-known-effect c = search needs
 
+counting-requires : tie.Need-counting-requires
+counting-requires c κs = tt
+
 enum-known-effect-2 : tie.Need-enum-known-effect-2
 enum-known-effect-2 c = search needs
+
+resized-requires : tie.Need-resized-requires
+resized-requires c κs = tt
 
 enum-told : tie.Need-enum-told
 enum-told c = search needs
@@ -38,10 +44,10 @@ enum-told-9 : tie.Need-enum-told-9
 enum-told-9 c = search needs
 
 returns : tie.Need-returns
-returns c = rw (c .before .effect .given .1)
+returns c = rw (c .before .before .effect .given .1) (c .counting .ensures)
 
 returns-2 : tie.Need-returns-2
-returns-2 c = rw (c .before .effect2 .given .1)
+returns-2 c = rw (c .before .before .effect2 .given .1) (c .resized .ensures)
 
 returns-3 : tie.Need-returns-3
 returns-3 c = search needs
@@ -75,7 +81,9 @@ written-spec =
     tie.close
     (tie.spec
     enum-known-effect
+    counting-requires
     enum-known-effect-2
+    resized-requires
     enum-told
     enum-told-2
     enum-told-3

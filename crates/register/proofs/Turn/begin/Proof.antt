@@ -15,18 +15,18 @@ returns : tie.Need-returns
 unfolding busyVerdict
 returns c = c .refused .ensures ∙ rw (pick-true _ _ _ (ap not (ne-eqb _ _ (c .before .if1 .taken))))
 
-with-bit-requires : tie.Need-with-bit-requires
-with-bit-requires c κs = tt
-
-begun-requires : tie.Need-begun-requires
-begun-requires c κs = tt
+busy-with-requires : tie.Need-busy-with-requires
+busy-with-requires c κs = tt
 
 answered-requires : tie.Need-answered-requires
 answered-requires c κs = tt
 
+begun-requires : tie.Need-begun-requires
+begun-requires c κs = tt
+
 returns-2 : tie.Need-returns-2
 unfolding busyVerdict
-returns-2 c = rw (c .answered .ensures, c .before .begun .ensures, c .before .before .with-bit .ensures, pick-false _ _ _ (ap not (eq-eqb _ _ (c .before .before .before .before .if1 .left))))
+returns-2 c = rw (c .begun .ensures, c .before .answered .ensures, c .before .before .busy-with .ensures, pick-false _ _ _ (ap not (eq-eqb _ _ (c .before .before .before .if1 .left))))
 
 pub begin-spec : {M : Type 1} → statement M
-begin-spec = tie.close (tie.spec refused-requires returns with-bit-requires begun-requires answered-requires returns-2)
+begin-spec = tie.close (tie.spec refused-requires returns busy-with-requires answered-requires begun-requires returns-2)
