@@ -1,5 +1,5 @@
 pub mod Step
 pub mod Calls
 pub mod Parts
-pub mod Chain
+pub mod Registered
 pub mod Events

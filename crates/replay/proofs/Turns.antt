@@ -15,8 +15,8 @@ use Rattle.crew.specs.Crew.{Crew}
 use Rattle.script.specs.declared.Entry.{Entry}
 use Rattle.script.specs.declared.Entry.the-variants.{End}
 use Rattle.script.specs.Script.{entryAt}
-use Rattle.replay.specs.Replay.{kindOf, nextOf, isPlayed, followed}
-use Rattle.replay.proofs.Laws.{goes, nextCall, followed-on, followed-stop, and-false}
+use Rattle.replay.specs.Replay.{kindOf, nextOf, isPlayed, laterLines}
+use Rattle.replay.proofs.Laws.{goes, nextCall, later-on, later-stop, and-false}
 
 -- the input's end is no record
 end-stops : (input : List ℕ) (offset : ℕ) → length input ≤ offset → isPlayed (kindOf (entryAt input offset)) ≡ false
@@ -42,10 +42,10 @@ goes-on input turns offset h e = rw (lt-ltb 0 turns h) e
 goes-not : (input : List ℕ) (turns offset : ℕ) → isPlayed (kindOf (entryAt input offset)) ≡ false → goes input turns offset ≡ false
 goes-not input turns offset e = rw e (and-false (ltb 0 turns))
 
-pub turns-enough : (input : List ℕ) (turns more offset : ℕ) (l : Left Crew) → length input ≤ offset + turns → followed input (turns + more) offset l ≡ followed input turns offset l
+pub turns-enough : (input : List ℕ) (turns more offset : ℕ) (l : Left Crew) → length input ≤ offset + turns → laterLines input (turns + more) offset l ≡ laterLines input turns offset l
 turns-enough input zero more offset l h =
-    followed-stop input (0 + more) offset l (goes-not input (0 + more) offset (end-stops input offset (omega arith)))
-    ∙ sym (followed-stop input 0 offset l refl)
+    later-stop input (0 + more) offset l (goes-not input (0 + more) offset (end-stops input offset (omega arith)))
+    ∙ sym (later-stop input 0 offset l refl)
 turns-enough input (suc turns) more offset l h =
     by-test (isPlayed (kindOf (entryAt input offset))) refl
     (λ past. turns-enough input turns more (nextOf (entryAt input offset)) (nextCall input offset l) (omega arith))
@@ -57,11 +57,11 @@ turns-enough input (suc turns) more offset l h =
     one = omega arith
 
     by-test : (b : Bool) → isPlayed (kindOf (entryAt input offset)) ≡ b
-        → (offset < nextOf (entryAt input offset) → followed input (turns + more) (nextOf (entryAt input offset)) (nextCall input offset l) ≡ followed input turns (nextOf (entryAt input offset)) (nextCall input offset l))
-        → followed input (suc turns + more) offset l ≡ followed input (suc turns) offset l
+        → (offset < nextOf (entryAt input offset) → laterLines input (turns + more) (nextOf (entryAt input offset)) (nextCall input offset l) ≡ laterLines input turns (nextOf (entryAt input offset)) (nextCall input offset l))
+        → laterLines input (suc turns + more) offset l ≡ laterLines input (suc turns) offset l
     by-test true e rest =
-        followed-on input (suc turns + more) offset l (goes-on input (suc turns + more) offset (omega arith) e)
-        ∙ rw (fewer, rest (further input offset e)) (rw one at (sym (followed-on input (suc turns) offset l (goes-on input (suc turns) offset (omega arith) e))))
+        later-on input (suc turns + more) offset l (goes-on input (suc turns + more) offset (omega arith) e)
+        ∙ rw (fewer, rest (further input offset e)) (rw one at (sym (later-on input (suc turns) offset l (goes-on input (suc turns) offset (omega arith) e))))
     by-test false e rest =
-        followed-stop input (suc turns + more) offset l (goes-not input (suc turns + more) offset e)
-        ∙ sym (followed-stop input (suc turns) offset l (goes-not input (suc turns) offset e))
+        later-stop input (suc turns + more) offset l (goes-not input (suc turns + more) offset e)
+        ∙ sym (later-stop input (suc turns) offset l (goes-not input (suc turns) offset e))

@@ -15,7 +15,7 @@ use Rattle.script.specs.Script.{entryAt, bodyAt}
 use Rattle.lines.specs.Lines.{refusedLine}
 use Rattle.replay.specs.declared.Stand.{Stand}
 use Rattle.replay.specs.Play.{opened}
-use Rattle.replay.specs.Replay.{standOf, stopLine, firstLine, followed, beginning, blanks, TOO-LONG, LONGEST, printed}
+use Rattle.replay.specs.Replay.{standOf, stopLine, firstLine, laterLines, beginning, blanks, TOO-LONG, LONGEST, printed}
 
 -- ---- what stops the run
 pub stop-none : (input : List ℕ) (offset : ℕ) → length input ≤ offset → [] ≡ stopLine input offset
@@ -32,7 +32,7 @@ module _ (input : List ℕ) (next : ℕ) (a : Answer) (l : Left Crew) (body : Li
   unfolding beginning
   begun-refused h = rw (← of, ← is, ← told) (sym (pick-false _ _ _ h))
 
-  pub begun-on : goesOn a ≡ true → firstLine (l .out .called .header) ++ followed input (length input) next l ≡ beginning input next (opened (bodyAt input 0) ts)
+  pub begun-on : goesOn a ≡ true → firstLine (l .out .called .header) ++ laterLines input (length input) next l ≡ beginning input next (opened (bodyAt input 0) ts)
   unfolding beginning
   begun-on h = rw (← of, ← is, ← told) (sym (pick-true _ _ _ h))
 

@@ -41,8 +41,8 @@ unfoldable pub opened : List ℕ → Tables → Left Crew
 opened body ts = prepareAt (limitsOf body) blank (replicate MOST-WORKERS idle) ts
 
 -- ---- the other kinds: a body's first byte is the worker
-abbrev pub workerOf : List ℕ → ℕ
-workerOf body = getD body 0 0
+abbrev pub workerIn : List ℕ → ℕ
+workerIn body = getD body 0 0
 
 -- and its number is the key (4 bytes) of 01, 02 and 03, the one step of 04, and the n steps of 05
 unfoldable pub numberIn : ℕ → List ℕ → ℕ

@@ -16,7 +16,7 @@ use Rattle.script.specs.declared.Entry.the-variants.{End, Unknown, Cut, Whole}
 use Rattle.script.specs.Script.{entryAt, bodyAt}
 use Rattle.lines.specs.Lines.{registerLine, refusedLine, endLine}
 use Rattle.replay.specs.declared.Stand.{Stand}
-use Rattle.replay.specs.Play.{opened, workerOf, numberIn, played, operationOf, callLine}
+use Rattle.replay.specs.Play.{opened, workerIn, numberIn, played, operationOf, callLine}
 
 -- ---- what stands at an offset, to the run
 -- no kind
@@ -86,20 +86,20 @@ blanks = tables (replicate NODE-WORDS 0) (replicate MOST-BUCKETS 0)
 abbrev pub lastLine : Header → List ℕ → List ℕ
 lastLine h ns = endLine (keysFrom ns MOST-NODES 1) (h .count) (h .size)
 
-abbrev pub closed : List ℕ → ℕ → Header → List ℕ → List ℕ
-closed input offset h ns = stopLine input offset ++ lastLine h ns
+abbrev pub lastLines : List ℕ → ℕ → Header → List ℕ → List ℕ
+lastLines input offset h ns = stopLine input offset ++ lastLine h ns
 
 -- ---- the records after the first, one a turn, each on what the last call left; there are no more of them than bytes
-unfoldable pub followed : List ℕ → ℕ → ℕ → Left Crew → List ℕ
-followed input zero offset l = closed input offset (l .out .called .header) (l .tables .nodes)
-followed input (suc turns) offset l =
+unfoldable pub laterLines : List ℕ → ℕ → ℕ → Left Crew → List ℕ
+laterLines input zero offset l = lastLines input offset (l .out .called .header) (l .tables .nodes)
+laterLines input (suc turns) offset l =
     let e = entryAt input offset in
     let body = bodyAt input offset in
-    let w = workerOf body in
+    let w = workerIn body in
     let m = played (kindOf e) w (numberIn (kindOf e) body) (l .out .called .header) (l .out .workers) (l .tables) in
     pick (isPlayed (kindOf e))
-    (callLine (operationOf w (l .out .workers)) (m .out .called .answer) (m .out .called .steps) offset ++ followed input turns (nextOf e) m)
-    (closed input offset (l .out .called .header) (l .tables .nodes))
+    (callLine (operationOf w (l .out .workers)) (m .out .called .answer) (m .out .called .steps) offset ++ laterLines input turns (nextOf e) m)
+    (lastLines input offset (l .out .called .header) (l .tables .nodes))
 
 -- ---- the first record: `register M K W L`, and the records after it; a refused 00 stops the run
 abbrev pub firstLine : Header → List ℕ
@@ -107,7 +107,7 @@ firstLine h = registerLine (h .m) (h .k) (h .w) (h .l)
 
 unfoldable pub beginning : List ℕ → ℕ → Left Crew → List ℕ
 beginning input next l =
-    pick (goesOn (l .out .called .answer)) (firstLine (l .out .called .header) ++ followed input (length input) next l)
+    pick (goesOn (l .out .called .answer)) (firstLine (l .out .called .header) ++ laterLines input (length input) next l)
     (refusedLine (numberOf (l .out .called .answer)) 0)
 
 -- ---- the bytes of a schedule to the bytes of the text that it prints

@@ -5,7 +5,7 @@ use mathlib.Core.List.{List}
 use mathlib.Core.Logic.{_⊎_, inl, inr, ⊎-elim}
 use mathlib.Core.Path.{_≡_, refl, sym, ap, _∙_}
 use native.Mathlib.Omega.{arith}
-use Rattle.register.specs.Chain.{key, after, On, first, then, Registered}
+use Rattle.register.specs.Registered.{key, nextIn, On, first, then, Registered}
 use Rattle.promises.specs.Wrong.{freesAtOnce, storesEarly}
 use Rattle.story.specs.Run.{State, shared}
 use Rattle.story.specs.Story.{Where, free, chained, held, waiting, At}
@@ -14,9 +14,9 @@ use Rattle.samples.specs.Errors.{tiny, early, Errors}
 use Rattle.samples.proofs.Computing.{computed}
 
 -- a chain of two nodes
-on-two : (ns : List ℕ) (a : ℕ) → after ns 1 ≡ a → after ns a ≡ 0 → {n : ℕ} → On ns n → (n ≡ 1) ⊎ (n ≡ a)
+on-two : (ns : List ℕ) (a : ℕ) → nextIn ns 1 ≡ a → nextIn ns a ≡ 0 → {n : ℕ} → On ns n → (n ≡ 1) ⊎ (n ≡ a)
 on-two ns a p q first = inl refl
-on-two ns a p q (then {n} o ne) = ⊎-elim (λ e. inr (ap (after ns) e ∙ p)) (λ e. absurd (ne (ap (after ns) e ∙ q))) (on-two ns a p q o)
+on-two ns a p q (then {n} o ne) = ⊎-elim (λ e. inr (ap (nextIn ns) e ∙ p)) (λ e. absurd (ne (ap (nextIn ns) e ∙ q))) (on-two ns a p q o)
 
 -- neither side of the ledger's choice
 neither : {A : Type 0} (ins del : ℕ) → (ins ≡ del + 1 → A → ⊥) → (ins ≡ del → (A → ⊥) → ⊥) → (A × (ins ≡ del + 1)) ⊎ ((A → ⊥) × (ins ≡ del)) → ⊥

@@ -7,10 +7,10 @@ use Rattle.samples.proofs.Computing.{computed}
 pub samples : Samples
 unfolding computed
 samples = record {
-  f4-fails = record { prepared = refl; turned = (refl, refl); printed = refl; ended = refl };
-  l2-fails = record { prepared = refl; turned = (refl, refl); printed = refl; ended = refl };
-  d4a-fails = record { prepared = refl; turned = (refl, refl); printed = refl; ended = refl };
-  d4b-fails = record { prepared = refl; turned = ((refl, refl), refl); printed = refl; ended = refl };
-  below-zero = record { prepared = refl; turned = (refl, refl); printed = refl; ended = refl };
-  old-size = record { prepared = refl; turned = (refl, refl, refl, refl); printed = refl; ended = refl };
+  f4-fails = record { prepared = refl; turned = (refl, refl); printedLines = refl; ended = refl };
+  l2-fails = record { prepared = refl; turned = (refl, refl); printedLines = refl; ended = refl };
+  d4a-fails = record { prepared = refl; turned = (refl, refl); printedLines = refl; ended = refl };
+  d4b-fails = record { prepared = refl; turned = ((refl, refl), refl); printedLines = refl; ended = refl };
+  below-zero = record { prepared = refl; turned = (refl, refl); printedLines = refl; ended = refl };
+  old-size = record { prepared = refl; turned = (refl, refl, refl, refl); printedLines = refl; ended = refl };
 }

@@ -23,8 +23,8 @@ abbrev pub times : {A : Type 0} → ℕ → A → List A → List A
 times zero x xs = xs
 times (suc n) x xs = x ∷ times n x xs
 
-abbrev pub blank : Limits → State
-blank l = record {
+abbrev pub zeroed : Limits → State
+zeroed l = record {
   header = fresh 0 0 0 0;
   workers = times (l .w) idle [];
   tables = tables (times ((l .m + l .w + l .k) * 3) 0 []) (times (l .m) 0 []);
@@ -42,14 +42,14 @@ callsOf (steps w n ∷ rs) = times n (step w) (callsOf rs)
 
 -- a register of these limits, prepared over them
 abbrev pub Prepared : Limits → Type 0
-Prepared l = prepares l (blank l) .out .called .answer ≡ Going
+Prepared l = prepares l (zeroed l) .out .called .answer ≡ Going
 
 abbrev pub begins : Limits → State
-begins l = stateOf (prepares l (blank l))
+begins l = stateOf (prepares l (zeroed l))
 
 -- its run; after its calls worker 16 is asked, and there is none
 abbrev pub runOf : (l : Limits) → Prepared l → List Record → Run
-runOf l p rs = record { limits = l; lent = blank l; fresh = p; call = λ i. getD (callsOf rs) i (step 16) }
+runOf l p rs = record { limits = l; lent = zeroed l; fresh = p; call = λ i. getD (callsOf rs) i (step 16) }
 
 -- ---- another register: our starts, and steps of its own
 abbrev pub leavesBy : Step → State → Call → Left Crew
@@ -66,7 +66,7 @@ stateBy other r (suc i) = stateOf (leavesBy other (stateBy other r i) (r .call i
 abbrev pub eventBy : Step → Run → ℕ → Event
 eventBy other r i = event (stateBy other r i) (r .call i)
 
--- ---- what is printed: "for each ended operation worker kind key answer steps"
+-- ---- what is printedLines: "for each ended operation worker kind key answer steps"
 pub record Line : Type 0 where
   pub worker : ℕ
   pub kind : ℕ
@@ -74,20 +74,20 @@ pub record Line : Type 0 where
   pub answer : Answer
   pub steps : ℕ
 
-abbrev pub line : (worker kind key : ℕ) → Answer → (steps : ℕ) → Line
-line w kind key a n = record { worker = w; kind = kind; key = key; answer = a; steps = n }
+abbrev pub lineOf : (worker kind key : ℕ) → Answer → (steps : ℕ) → Line
+lineOf w kind key a n = record { worker = w; kind = kind; key = key; answer = a; steps = n }
 
-abbrev pub printed : State → Call → Left Crew → List Line → List Line
-printed s (start w kind key) l rest = rest
-printed s (step w) l rest =
+abbrev pub printedLines : State → Call → Left Crew → List Line → List Line
+printedLines s (start w kind key) l rest = rest
+printedLines s (step w) l rest =
     let x = workerOf (shared s) w in
     let c = l .out .called in
-    pick (ends (c .answer)) (line w (x .kind) (x .key) (c .answer) (c .steps) ∷ rest) rest
+    pick (ends (c .answer)) (lineOf w (x .kind) (x .key) (c .answer) (c .steps) ∷ rest) rest
 
 -- the lines of these calls from a state on, by a register that leaves so much of a call
 abbrev pub linesOf : (State → Call → Left Crew) → State → List Call → List Line
 linesOf by s [] = []
-linesOf by s (c ∷ cs) = let rest = linesOf by (stateOf (by s c)) cs in printed s c (by s c) rest
+linesOf by s (c ∷ cs) = let rest = linesOf by (stateOf (by s c)) cs in printedLines s c (by s c) rest
 
 -- a schedule prints these lines
 abbrev pub Prints : (State → Call → Left Crew) → Limits → List Record → List Line → Type 0

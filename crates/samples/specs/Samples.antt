@@ -10,7 +10,7 @@ use Rattle.header.specs.Header.{nodesOf}
 use Rattle.prepare.specs.declared.Limits.{Limits}
 use Rattle.story.specs.Shared.{Shared, workerOf}
 use Rattle.story.specs.Run.{State, leaves, Run, state, shared}
-use Rattle.samples.specs.Played.{Record, starts, steps, callsOf, Prepared, runOf, Line, line, Prints}
+use Rattle.samples.specs.Played.{Record, starts, steps, callsOf, Prepared, runOf, Line, lineOf, Prints}
 
 -- a schedule, a call at which it turns and how, and what it prints: lines, then "end keys count size"
 pub record Sample : Type 1 where
@@ -28,10 +28,10 @@ TurnsIn e r = e .turns (shared (state r (e .call))) (shared (state r (suc (e .ca
 abbrev pub EndsIn : Sample → State → Type 0
 EndsIn e s = (keysFrom (s .tables .nodes) (nodesOf (s .header)) 1, s .header .count, s .header .size) ≡ e .end
 
-pub record Right (e : Sample) : Type 0 where
+pub record Holds (e : Sample) : Type 0 where
   pub prepared : Prepared (e .limits)
   pub turned : TurnsIn e (runOf (e .limits) prepared (e .schedule))
-  pub printed : Prints leaves (e .limits) (e .schedule) (e .lines)
+  pub printedLines : Prints leaves (e .limits) (e .schedule) (e .lines)
   pub ended : EndsIn e (state (runOf (e .limits) prepared (e .schedule)) (length (callsOf (e .schedule))))
 
 abbrev pub limits : (m k w l : ℕ) → Limits
@@ -50,7 +50,7 @@ f4Fails = record {
       ∷ steps 0 2 ∷ steps 1 1 ∷ steps 0 2 ∷ steps 1 1 ∷ [];
   call = 22;
   turns = Fails 0 F4;
-  lines = line 0 INSERT 0 Yes 7 ∷ line 0 FIND 0 No 7 ∷ line 1 DELETE 0 Yes 8 ∷ [];
+  lines = lineOf 0 INSERT 0 Yes 7 ∷ lineOf 0 FIND 0 No 7 ∷ lineOf 1 DELETE 0 Yes 8 ∷ [];
   end = (0, 0, 2);
 }
 
@@ -61,7 +61,7 @@ l2Fails = record {
   schedule = starts 0 INSERT 0 ∷ steps 0 4 ∷ starts 1 INSERT 0 ∷ steps 1 4 ∷ steps 0 1 ∷ steps 1 1 ∷ steps 0 2 ∷ steps 1 3 ∷ [];
   call = 11;
   turns = Fails 1 L2;
-  lines = line 0 INSERT 0 Yes 7 ∷ line 1 INSERT 0 No 8 ∷ [];
+  lines = lineOf 0 INSERT 0 Yes 7 ∷ lineOf 1 INSERT 0 No 8 ∷ [];
   end = (1, 1, 2);
 }
 
@@ -74,7 +74,7 @@ d4aFails = record {
       ∷ steps 0 1 ∷ steps 1 2 ∷ steps 0 2 ∷ steps 1 1 ∷ [];
   call = 21;
   turns = Fails 1 D4A;
-  lines = line 0 INSERT 0 Yes 7 ∷ line 0 DELETE 0 Yes 8 ∷ line 1 DELETE 0 No 7 ∷ [];
+  lines = lineOf 0 INSERT 0 Yes 7 ∷ lineOf 0 DELETE 0 Yes 8 ∷ lineOf 1 DELETE 0 No 7 ∷ [];
   end = (0, 0, 2);
 }
 
@@ -85,7 +85,7 @@ d4bFails = record {
   schedule = starts 0 INSERT 0 ∷ steps 0 7 ∷ starts 0 FIND 0 ∷ steps 0 3 ∷ starts 1 DELETE 0 ∷ steps 1 6 ∷ steps 0 3 ∷ steps 1 3 ∷ [];
   call = 22;
   turns = λ before after. Fails 1 D4B before after × (workerOf after 1 .errand ≡ EXTRA);
-  lines = line 0 INSERT 0 Yes 7 ∷ line 0 FIND 0 No 6 ∷ line 1 DELETE 0 Yes 9 ∷ [];
+  lines = lineOf 0 INSERT 0 Yes 7 ∷ lineOf 0 FIND 0 No 6 ∷ lineOf 1 DELETE 0 Yes 9 ∷ [];
   end = (0, 0, 2);
 }
 
@@ -96,7 +96,7 @@ belowZero = record {
   schedule = starts 0 INSERT 0 ∷ steps 0 6 ∷ starts 1 DELETE 0 ∷ steps 1 8 ∷ steps 0 1 ∷ [];
   call = 15;
   turns = λ before after. (before .header .count ≡ 0) × (after .header .count ≡ 4294967295);
-  lines = line 1 DELETE 0 Yes 8 ∷ line 0 INSERT 0 Yes 7 ∷ [];
+  lines = lineOf 1 DELETE 0 Yes 8 ∷ lineOf 0 INSERT 0 Yes 7 ∷ [];
   end = (0, 0, 2);
 }
 
@@ -111,16 +111,16 @@ oldSize = record {
   turns = λ before after.
       (before .header .size ≡ 4) × (workerOf before 1 .place ≡ TB) × (workerOf before 1 .wanted ≡ 0) × (workerOf after 1 .start ≡ 1);
   lines =
-      line 0 INSERT 0 Yes 7 ∷ line 0 INSERT 2 Yes 9 ∷ line 0 INSERT 4 Yes 11 ∷ line 0 INSERT 6 Yes 13
-      ∷ line 0 INSERT 8 Yes 12 ∷ line 1 INSERT 10 Yes 17 ∷ line 0 FIND 10 Yes 21 ∷ [];
+      lineOf 0 INSERT 0 Yes 7 ∷ lineOf 0 INSERT 2 Yes 9 ∷ lineOf 0 INSERT 4 Yes 11 ∷ lineOf 0 INSERT 6 Yes 13
+      ∷ lineOf 0 INSERT 8 Yes 12 ∷ lineOf 1 INSERT 10 Yes 17 ∷ lineOf 0 FIND 10 Yes 21 ∷ [];
   end = (6, 6, 4);
 }
 
 -- every one is right
 pub record Samples : Type 0 where
-  pub f4-fails : Right f4Fails
-  pub l2-fails : Right l2Fails
-  pub d4a-fails : Right d4aFails
-  pub d4b-fails : Right d4bFails
-  pub below-zero : Right belowZero
-  pub old-size : Right oldSize
+  pub f4-fails : Holds f4Fails
+  pub l2-fails : Holds l2Fails
+  pub d4a-fails : Holds d4aFails
+  pub d4b-fails : Holds d4bFails
+  pub below-zero : Holds belowZero
+  pub old-size : Holds oldSize

@@ -19,9 +19,9 @@ use Rattle.header.specs.Header.{dummiesOf, nodesOf}
 use Rattle.header.specs.Rows.{Limits}
 use Rattle.record.specs.declared.Worker.{Worker}
 use Rattle.names.specs.Names.{KEY-LIMIT}
-use Rattle.register.specs.Chain.{key, link, standing, after, mark}
+use Rattle.register.specs.Registered.{key, link, standing, nextIn, mark}
 use Rattle.story.proofs.Memory
-use Rattle.story.proofs.Chain.{putAfter, cutAfter, put-new, put-old, put-only, cut-only, cut-self, some-on, succ-in}
+use Rattle.story.proofs.Linked.{putAfter, cutAfter, put-new, put-old, put-only, cut-only, cut-self, some-on, succ-in}
 use Rattle.story.proofs.Facts.{Held, Nodes, OfBucket, Later}
 use Rattle.story.proofs.Core.{Pasts, Core, shift}
 use Rattle.story.proofs.Effects.{linked, linked-later, kept, unlinked, unlinked-later, marked, marked-later, penned, penned-later, took, took-later, freed, freed-later}
@@ -413,7 +413,7 @@ module _ {h : Header} {ws : List Worker} {Ps : Pasts} {w k d : ℕ} {c m : List 
     abbrev u₁ : List ℕ
     u₁ = put u₀ cur STANDING (h .busy)
 
-    u-np : after m prev ≡ cur
+    u-np : nextIn m prev ≡ cur
     u-np = rw was (omega arith)
 
     u-cur : In cur c
@@ -446,7 +446,7 @@ module _ {h : Header} {ws : List Worker} {Ps : Pasts} {w k d : ℕ} {c m : List 
     pub unlink-later : (v : ℕ) → bit v (h .busy) ≡ 1 → Later D N v 0 c m (cutAfter i) u₁
     unlink-later v on = unlinked-later D N c m u₁ prev cur nx (h .busy) g₀ i u-length uk us uc ul up was some dead busy-small v 0 on
 
-    pub unlink-prev : In prev (cutAfter i) × (after u₁ prev ≡ nx)
+    pub unlink-prev : In prev (cutAfter i) × (nextIn u₁ prev ≡ nx)
     unlink-prev = (cut-self i, rw up (omega arith))
 
     u-kept : (j : ℕ) → In j c → j ≢ cur → In j (cutAfter i)

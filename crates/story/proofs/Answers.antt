@@ -17,13 +17,13 @@ use Rattle.names.specs.declared.Answer.{Answer}
 use Rattle.names.specs.declared.Answer.the-variants.{Going, Yes, No, Limit, Short, Damaged, NoWorker, KeyAbove, IsBusy, IsIdle, NoKind, NoKeyNode, NoDummy}
 use Rattle.header.specs.Header.{nodesOf, dummiesOf}
 use Rattle.record.specs.declared.Worker.{Worker}
-use Rattle.register.specs.Chain.{key, Registered}
+use Rattle.register.specs.Registered.{key, Registered}
 use Rattle.register.specs.Events.{Event, nothing, added, removed, Says, yes-insert, yes-delete, yes-find, no-insert, no-find, no-delete}
 use Rattle.story.specs.Shared.{Call, start, step, Shared, workerOf}
 use Rattle.story.specs.Story.{AnswersAreFromThePaper, Ends, Operation, Own, OfAnOperation, TrueAtAMoment, OwnEvent, OwnEffect}
 use Rattle.story.specs.Trace.{Trace, state, answerAt, eventAt, told}
 use Rattle.story.proofs.Spans.{startsOf, began, owns, effects}
-use Rattle.story.proofs.Chain.{on-in}
+use Rattle.story.proofs.Linked.{on-in}
 use Rattle.story.proofs.Facts.{Fact}
 use Rattle.story.proofs.Registers.{gap}
 use Rattle.story.proofs.Steps.{tookAt, Turned, ToldBy, Presently, Absently}

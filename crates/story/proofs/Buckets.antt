@@ -30,8 +30,8 @@ use Rattle.acts.specs.declared.Move.{Move}
 use Rattle.acts.specs.declared.Move.the-variants.{Going}
 use Rattle.moves.specs.Moves.{tb, b2, b4, b8, sz}
 use Rattle.writes.specs.Writes.{taken}
-use Rattle.register.specs.Chain.{key, standing}
-use Rattle.story.proofs.Chain.{some-on}
+use Rattle.register.specs.Registered.{key, standing}
+use Rattle.story.proofs.Linked.{some-on}
 use Rattle.story.proofs.Registers.{unmoved}
 use Rattle.story.proofs.Facts as F
 use Rattle.story.proofs.Facts.{Nodes, forKey, forDummy}

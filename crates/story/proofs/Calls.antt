@@ -39,7 +39,7 @@ use Rattle.register.specs.Calls.{startVerdict, stepVerdict}
 use Rattle.crew.proofs.Laws.{sized}
 use Rattle.crew.specs.One.{turn}
 use Rattle.promises.proofs.Shape.{Final, effect-at}
-use Rattle.register.specs.Chain.{key, link}
+use Rattle.register.specs.Registered.{key, link}
 use Rattle.register.specs.Events.{Event, nothing, added, removed, written, taking}
 use Rattle.story.specs.Shared.{Call, start, step, Shared, workerOf}
 use Rattle.story.specs.Trace.{Quiet, Keeps, turnOf, seenAt, allThere, Done, doneBy, startDone, moveDone, stepDone, done, Called, Paused, Next, calls, pause}

@@ -16,7 +16,7 @@ use Rattle.header.specs.Header.{dummiesOf, nodesOf}
 use Rattle.header.specs.Rows.{Limits, PowerFromTo}
 use Rattle.record.specs.declared.Worker.{Worker}
 use Rattle.record.specs.Worker.{idle, heldKey, heldDummy}
-use Rattle.register.specs.Chain.{key, standing}
+use Rattle.register.specs.Registered.{key, standing}
 use Rattle.words.proofs.Laws.{nothing}
 use Rattle.story.proofs.Facts.{Held, Nodes, OfBucket, Root, Spot, number, i1, sz, tb, b2, b4, f1, f2, f3, f4, l2, b8, i8, i9, i10, d4a, d4b, d6, keyOf, dummyOf, Fact, Later}
 use Rattle.story.proofs.Stable as st

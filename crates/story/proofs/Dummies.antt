@@ -14,9 +14,9 @@ use Rattle.header.specs.declared.Header.{Header}
 use Rattle.header.specs.Header.{dummiesOf}
 use Rattle.record.specs.declared.Worker.{Worker}
 use Rattle.record.specs.Worker.{heldDummy}
-use Rattle.register.specs.Chain.{key, standing}
+use Rattle.register.specs.Registered.{key, standing}
 use Rattle.slots.proofs.Slots.{Slots, fewer}
-use Rattle.story.proofs.Chain.{same-key}
+use Rattle.story.proofs.Linked.{same-key}
 use Rattle.story.proofs.Core.{Pasts, recordOf, fact-key, Holder, Core}
 
 -- a slot for each bucket and for each worker: 1 to M, then M + 1 to M + W

@@ -13,8 +13,8 @@ use Rattle.sets.proofs.Laws.{bit-some, dropped-other}
 use Rattle.scans.specs.Scans.{leave}
 use Rattle.scans.proofs.Laws.{leave-set, leave-taken, leave-le}
 use Rattle.words.proofs.Laws.{nothing}
-use Rattle.register.specs.Chain.{key, link, standing, after, mark}
-use Rattle.story.proofs.Chain.{putAfter, cutAfter, frame, insert, unlink, put-old, put-only, cut-old, cut-only, cut-gone, succ-in, some-on, root-on}
+use Rattle.register.specs.Registered.{key, link, standing, nextIn, mark}
+use Rattle.story.proofs.Linked.{putAfter, cutAfter, frame, insert, unlink, put-old, put-only, cut-old, cut-only, cut-gone, succ-in, some-on, root-on}
 use Rattle.story.proofs.Facts.{Waits, Safe, Held, Nodes, Later}
 
 -- a read
@@ -35,7 +35,7 @@ module _ (D N : ℕ) (c m : List ℕ) (g : Nodes D N c m) where
   safe-some v n (inl i) e = omega (arith, some-on m 0 1 i (g .walk))
   safe-some v n (inr w) e = let z : standing m n ≡ 0 = rw e (nothing m 2) in omega (arith, bit-some v (standing m n) (w .has))
 
-  pub next-fits : (n : ℕ) → n ≤ N → after m n ≤ N
+  pub next-fits : (n : ℕ) → n ≤ N → nextIn m n ≤ N
   next-fits n b = omega (arith, g .links n b)
 
 -- a held node is not safe for anybody
@@ -55,7 +55,7 @@ module _ (D N lo hi : ℕ) (c m m′ : List ℕ) (p h cur most : ℕ) (g : Nodes
   kh : key m′ h ≡ most
   kh = ek h ∙ has
 
-  np : after m p ≡ cur
+  np : nextIn m p ≡ cur
   np = rw was (omega arith)
 
   pub linked : Nodes D N (putAfter i h) m′
@@ -124,10 +124,10 @@ module _ (D N : ℕ) (c m m′ : List ℕ) (p cur nx busy : ℕ) (g : Nodes D N 
     (size : length m′ ≡ length m) (ek : (n : ℕ) → key m′ n ≡ key m n) (es : (n : ℕ) → n ≢ cur → standing m′ n ≡ standing m n)
     (sc : standing m′ cur ≡ busy) (el : (n : ℕ) → n ≢ p → link m′ n ≡ link m n) (lp : link m′ p ≡ nx * 2)
     (was : link m p ≡ cur * 2) (some : cur ≢ 0) (dead : link m cur ≡ nx * 2 + 1) (small : busy < 65536) where
-  np′ : after m p ≡ cur
+  np′ : nextIn m p ≡ cur
   np′ = rw was (omega arith)
 
-  ne0 : after m p ≢ 0
+  ne0 : nextIn m p ≢ 0
   ne0 = rw np′ some
 
   pub on-cur : In cur c
@@ -218,7 +218,7 @@ module _ (D N : ℕ) (c m m′ : List ℕ) (cur nx : ℕ) (g : Nodes D N c m) (i
     links = λ n b. links n b (ℕ-discrete n cur);
   }
     where
-      nexts : (n : ℕ) → Dec (n ≡ cur) → after m′ n ≡ after m n
+      nexts : (n : ℕ) → Dec (n ≡ cur) → nextIn m′ n ≡ nextIn m n
       nexts n (yes e) = rw (e, lc, was) (omega arith)
       nexts n (no ne) = rw (el n ne) refl
 

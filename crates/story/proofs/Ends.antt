@@ -25,7 +25,7 @@ use Rattle.header.specs.Rows.{PowerFromTo}
 use Rattle.record.specs.declared.Worker.{Worker}
 use Rattle.record.specs.Worker.{fresh, idle, begun, heldKey, heldDummy}
 use Rattle.writes.specs.Writes.{Stores, none, into}
-use Rattle.register.specs.Chain.{key, link, standing}
+use Rattle.register.specs.Registered.{key, link, standing}
 use Rattle.story.specs.Trace.{Quiet, Keeps}
 use Rattle.story.proofs.Memory
 use Rattle.story.proofs.Facts.{Root, Spot, i1, sz, tb, b2, b4, f1, f2, f3, f4, l2, b8, i8, i9, i10, d4a, d4b, d6, At, Sane, Busy, Fact}

@@ -18,8 +18,8 @@ use Rattle.header.specs.Header.{dummiesOf, nodesOf}
 use Rattle.header.specs.Rows.{PowerFromTo}
 use Rattle.record.specs.declared.Worker.{Worker}
 use Rattle.record.specs.Worker.{idle}
-use Rattle.register.specs.Chain.{key, link, standing, mark}
-use Rattle.story.proofs.Chain.{Walk}
+use Rattle.register.specs.Registered.{key, link, standing, mark}
+use Rattle.story.proofs.Linked.{Walk}
 
 -- worker v is waited for at node n
 pub record Waits (N v : ℕ) (m : List ℕ) (n : ℕ) : Type 0 where

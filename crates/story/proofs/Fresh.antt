@@ -38,7 +38,7 @@ use Rattle.acts.specs.declared.Called.{Called}
 use Rattle.crew.specs.declared.Ready.{Ready as Ready′}
 use Rattle.crew.specs.Crew.{filled, prepareOne, made as filledBy, prepareAt}
 use Rattle.promises.proofs.Fresh.{prepare-fresh}
-use Rattle.register.specs.Chain.{key, link, standing}
+use Rattle.register.specs.Registered.{key, link, standing}
 use Rattle.story.specs.Shared.{Shared, workerOf}
 use Rattle.story.specs.Trace.{First}
 use Rattle.story.specs.Run.{State, stateOf}

@@ -13,14 +13,14 @@ use Rattle.split.proofs.Laws.{regular-inj}
 use Rattle.names.specs.Names.{IDLE, KEY-LIMIT}
 use Rattle.header.specs.Header.{nodesOf, dummiesOf}
 use Rattle.record.specs.declared.Worker.{Worker}
-use Rattle.register.specs.Chain.{key, Registered}
+use Rattle.register.specs.Registered.{key, Registered}
 use Rattle.register.specs.Events.{Event, nothing, added, removed, adds, removes, all}
 use Rattle.story.specs.Shared.{workerOf}
 use Rattle.story.specs.Story.{tallied}
 use Rattle.story.specs.Trace.{Trace, state, answerAt, eventAt}
 use Rattle.story.proofs.Registers.{Change}
 use Rattle.slots.proofs.Distinct.{without, Distinct, was-in, stays-in, still-distinct, gone, one-less, pigeonhole}
-use Rattle.story.proofs.Chain.{on-in, some-on}
+use Rattle.story.proofs.Linked.{on-in, some-on}
 use Rattle.story.proofs.Facts.{Nodes, Fact}
 use Rattle.story.proofs.Steps.{tookAt, Turned}
 use Rattle.story.proofs.Tally.{one}

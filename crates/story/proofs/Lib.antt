@@ -1,5 +1,5 @@
 pub mod Memory
-pub mod Chain
+pub mod Linked
 pub mod Facts
 pub mod Stable
 pub mod Hands

@@ -8,7 +8,7 @@ use native.Mathlib.Omega.{arith}
 use lib.ListN.{length}
 use Rattle.words.specs.Words.{SPLIT-KEY, LINK, STANDING, put}
 use Rattle.words.proofs.Laws.{put-same, put-node, put-word}
-use Rattle.register.specs.Chain.{key, link, standing}
+use Rattle.register.specs.Registered.{key, link, standing}
 
 -- after a store to a split key
 pub link-of-key : (m : List ℕ) (n v i : ℕ) → link (put m n SPLIT-KEY v) i ≡ link m i

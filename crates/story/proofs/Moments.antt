@@ -19,7 +19,7 @@ use Rattle.names.specs.declared.Answer.{Answer}
 use Rattle.names.specs.declared.Answer.the-variants.{Going, Yes}
 use Rattle.record.specs.declared.Worker.{Worker}
 use Rattle.record.specs.Worker.{idle, fresh, begun}
-use Rattle.register.specs.Chain.{key}
+use Rattle.register.specs.Registered.{key}
 use Rattle.register.specs.Events.{Event, nothing, added, removed, Says, yes-insert, yes-delete, yes-find}
 use Rattle.story.specs.Shared.{Call, start, step, Shared, workerOf}
 use Rattle.story.specs.Trace.{First, Trace, state, answerAt, eventAt}

@@ -12,11 +12,11 @@ use Rattle.words.specs.Words.{TAKEN}
 use Rattle.header.specs.Header.{nodesOf, dummiesOf}
 use Rattle.record.specs.declared.Worker.{Worker}
 use Rattle.record.specs.Worker.{idle, begun, heldKey, heldDummy}
-use Rattle.register.specs.Chain.{standing, On}
+use Rattle.register.specs.Registered.{standing, On}
 use Rattle.story.specs.Shared.{Shared, workerOf}
 use Rattle.story.specs.Story.{Where, free, chained, held, waiting, At, OnePlace, RecordsKept}
 use Rattle.story.specs.Trace.{Trace, state, answerAt, eventAt, told}
-use Rattle.story.proofs.Chain.{on-in, in-on}
+use Rattle.story.proofs.Linked.{on-in, in-on}
 use Rattle.story.proofs.Facts.{Held}
 use Rattle.story.proofs.Core.{Pasts, fact-key, fact-dummy}
 use Rattle.story.proofs.Calls.{InvOf, Tale, refused, begins, goes, ends}

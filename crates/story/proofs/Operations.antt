@@ -30,9 +30,9 @@ use Rattle.record.specs.Worker.{heldKey, heldDummy}
 use Rattle.acts.specs.declared.Effect.the-variants.{TakeKey, Aim, Place, Mark, Unlink}
 use Rattle.acts.specs.declared.Move.the-variants.{Going}
 use Rattle.moves.specs.Moves.{badLink, heldFor, placed, l2, i1, i8, i9, i10, d4a, d4b, d6}
-use Rattle.register.specs.Chain.{key, link, standing}
+use Rattle.register.specs.Registered.{key, link, standing}
 use Rattle.register.specs.Events.{Event, nothing, added}
-use Rattle.story.proofs.Chain.{putAfter, cutAfter, put-new}
+use Rattle.story.proofs.Linked.{putAfter, cutAfter, put-new}
 use Rattle.story.proofs.Memory.{key-of-link}
 use Rattle.story.proofs.Facts as F
 use Rattle.story.proofs.Facts.{Nodes, Held, Root, Way, forKey, forDummy, forExtra, AimOf, Later}

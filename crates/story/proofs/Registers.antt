@@ -9,9 +9,9 @@ use native.Mathlib.Decide.{ℕ-discrete}
 use Rattle.split.specs.Split.{reverse, regular, dummy}
 use Rattle.split.proofs.Laws.{regular-odd, regular-inj, dummy-even}
 use Rattle.names.specs.Names.{KEY-LIMIT}
-use Rattle.register.specs.Chain.{key, link, after, mark, On, Registered}
+use Rattle.register.specs.Registered.{key, link, nextIn, mark, On, Registered}
 use Rattle.register.specs.Events.{Event, nothing, added, removed}
-use Rattle.story.proofs.Chain.{putAfter, put-new, put-old, put-only, same-key, between, on-in, in-on}
+use Rattle.story.proofs.Linked.{putAfter, put-new, put-old, put-only, same-key, between, on-in, in-on}
 use Rattle.story.proofs.Facts.{Nodes}
 
 -- a key is registered in the one as in the other
@@ -56,7 +56,7 @@ module _ (D N : ℕ) (c m : List ℕ) (g : Nodes D N c m) where
   on i = in-on m c (g .walk) i
 
   -- between two neighbours of the chain, or after its last node, there is no key
-  pub gap : (p k : ℕ) → In p c → key m p < regular k → (after m p ≢ 0 → regular k < key m (after m p)) → Registered m k → ⊥
+  pub gap : (p k : ℕ) → In p c → key m p < regular k → (nextIn m p ≢ 0 → regular k < key m (nextIn m p)) → Registered m k → ⊥
   gap p k i lo hi r = between m p 0 1 (regular k) i (on-it r) (g .walk) lo hi (r .has)
 
 -- the same words
@@ -108,7 +108,7 @@ module _ (D N : ℕ) (c m m′ : List ℕ) (p h cur most : ℕ) (g : Nodes D N c
     others = λ j bj ne. linked-same j (λ q. ne (regular-inj j k (omega arith) (omega arith) (q ∙ e)));
   }
     where
-      np : after m p ≡ cur
+      np : nextIn m p ≡ cur
       np = rw was (omega arith)
 
 -- D4a: cur is marked

@@ -26,10 +26,10 @@ use Rattle.acts.specs.declared.Effect.the-variants.{Nothing, Free, Unlink}
 use Rattle.acts.specs.declared.Move.{Move}
 use Rattle.acts.specs.declared.Move.the-variants.{Damaged, Going, Ended}
 use Rattle.moves.specs.Moves.{notFound, foundKey, found, comes, f1, f2, judged, f3, f4}
-use Rattle.register.specs.Chain.{key, link, after, mark}
+use Rattle.register.specs.Registered.{key, link, nextIn, mark}
 use Rattle.register.specs.Events.{nothing}
 use Rattle.story.proofs.Memory.{key-of-standing}
-use Rattle.story.proofs.Chain.{cutAfter, succ-in}
+use Rattle.story.proofs.Linked.{cutAfter, succ-in}
 use Rattle.story.proofs.Facts as F
 use Rattle.story.proofs.Facts.{Safe, Held, Nodes, forKey, forDummy, forExtra, AimOf, Start, Beyond, Root, Sane, Searches, Passes, wantBy, inHand, sought, Later}
 use Rattle.story.proofs.Stable as st
@@ -198,7 +198,7 @@ module _ {h : Header} {ws : List Worker} {Ps Qs : Pasts} {w : ℕ} {c m : List �
       let some : x .start ≢ 0 = safe-some D N c m g₀ w (x .start) (inl (s .on)) in
       let fits : x .start ≤ N = g₀ .fits (x .start) (s .on) in
       past (Good z tk) _ _ (sound-link h x (x .start) (link m (x .start)) 0 some (g₀ .links (x .start) fits))
-      (arrives Nothing c m still (x .start) (after m (x .start)) fits (next-fits D N c m g₀ (x .start) fits)
+      (arrives Nothing c m still (x .start) (nextIn m (x .start)) fits (next-fits D N c m g₀ (x .start) fits)
       (b, record { safe = inl (s .on); low = s .low })
       (λ ne. inl (succ-in m (x .start) 0 1 (s .on) (g₀ .walk) ne))
       (λ q e. inl (gap D N c m g₀ (x .start) (x .key) (s .on) (rw e at (s .low)) (λ ne. absurd (ne q)))))
@@ -226,7 +226,7 @@ module _ {h : Header} {ws : List Worker} {Ps Qs : Pasts} {w : ℕ} {c m : List �
             b .1,
             record {
               live = λ e ne. inl (succ-in m (x .cur) 0 1 (live e) (g₀ .walk) ne);
-              was = λ e. z .see (x .cur) (after m (x .cur)) (live e) (omega (arith, unmarked e));
+              was = λ e. z .see (x .cur) (nextIn m (x .cur)) (live e) (omega (arith, unmarked e));
               dead = λ e. omega (arith, eqb-true (mark m (x .cur)) 1 e);
             },
           );
@@ -248,7 +248,7 @@ module _ {h : Header} {ws : List Worker} {Ps Qs : Pasts} {w : ℕ} {c m : List �
     prev-on : In (x .prev) c
     prev-on = live-on D N c m g₀ w (x .prev) (b .0 .1 .safe) (rw e (omega arith))
 
-    np : after m (x .prev) ≡ x .cur
+    np : nextIn m (x .prev) ≡ x .cur
     np = rw e (omega arith)
 
     some : x .cur ≢ 0
@@ -388,7 +388,7 @@ module _ {h : Header} {ws : List Worker} {Ps Qs : Pasts} {w : ℕ} {c m : List �
           core′ : Core h ws Ps w (heldKey x) (heldDummy x) (cutAfter i) m′ β
           core′ = unlinks (core z) (x .prev) (x .cur) (x .next) i e some (b .2)
 
-          on′ : In (x .prev) (cutAfter i) × (after m′ (x .prev) ≡ x .next)
+          on′ : In (x .prev) (cutAfter i) × (nextIn m′ (x .prev) ≡ x .next)
           on′ = unlink-prev (core z) (x .prev) (x .cur) (x .next) i e some (b .2)
 
           o : Onward (Unlink (x .prev) (x .next) (x .cur) (h .busy)) (cutAfter i) m′

@@ -9,7 +9,7 @@ use native.Mathlib.Omega.{arith}
 use Rattle.header.specs.declared.Header.{Header}
 use Rattle.header.specs.Header.{dummiesOf, nodesOf}
 use Rattle.record.specs.declared.Worker.{Worker}
-use Rattle.register.specs.Chain.{key, link}
+use Rattle.register.specs.Registered.{key, link}
 use Rattle.story.proofs.Facts.{Safe, Own, Root, Start, Prev, Beyond, Read, Spot, i1, sz, tb, b2, b4, f1, f2, f3, f4, l2, b8, i8, i9, i10, d4a, d4b, d6, Passes, At, keyOf, dummyOf, Busy, Later}
 
 module _ {D N v g : ℕ} {c m c′ m′ : List ℕ} (l : Later D N v g c m c′ m′) where

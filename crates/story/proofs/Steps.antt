@@ -29,7 +29,7 @@ use Rattle.writes.specs.Writes.{nodesAfter, headerAfter, storedBy}
 use Rattle.writes.specs.Carry.{closedBy}
 use Rattle.register.specs.Step.{closed}
 use Rattle.crew.specs.One.{turn}
-use Rattle.register.specs.Chain.{key, link, after, Registered}
+use Rattle.register.specs.Registered.{key, link, nextIn, Registered}
 use Rattle.register.specs.Events.{Event, nothing, added, removed, written}
 use Rattle.story.proofs.Registers.{Same, Change, unmoved}
 use Rattle.story.proofs.Facts.{Nodes, Spot, i1, sz, tb, b2, b4, f1, f2, f3, f4, l2, b8, i8, i9, i10, d4a, d4b, d6, number, At, Sane, wantBy, keyOf, dummyOf, Busy}

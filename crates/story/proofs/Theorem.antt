@@ -16,13 +16,13 @@ use Rattle.names.proofs.Classes.{stopped}
 use Rattle.names.specs.declared.Answer.{Answer}
 use Rattle.names.specs.declared.Answer.the-variants.{Going, Short, Damaged, NoDummy}
 use Rattle.record.specs.declared.Worker.{Worker}
-use Rattle.register.specs.Chain.{key, link, On, Registered}
+use Rattle.register.specs.Registered.{key, link, On, Registered}
 use Rattle.register.specs.Events.{Event, nothing, added, removed, Allowed, Then, adds, removes}
 use Rattle.story.specs.Shared.{Call, start, step, Shared, workerOf}
 use Rattle.story.specs.Story.{tallied, NeverDamaged, DummiesSuffice, Ledger, StepLaw, BitsAgree}
 use Rattle.story.specs.Trace.{done, answer, Called, Next, calls, pause, Trace, state, answerAt, eventAt, told}
 use Rattle.story.proofs.Spans.{startsOf, began}
-use Rattle.story.proofs.Chain.{on-in, in-on}
+use Rattle.story.proofs.Linked.{on-in, in-on}
 use Rattle.story.proofs.Stable.{Grows}
 use Rattle.story.proofs.Core.{Pasts}
 use Rattle.story.proofs.Registers.{Change, regular-odd-all}

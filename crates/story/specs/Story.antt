@@ -13,7 +13,7 @@ use Rattle.names.specs.declared.Answer.the-variants.{Going, Yes, No, Short, Dam
 use Rattle.header.specs.Header.{nodesOf}
 use Rattle.faults.specs.Rows.{IsOneOf}
 use Rattle.record.specs.Worker.{heldKey, heldDummy}
-use Rattle.register.specs.Chain.{standing, On, Registered}
+use Rattle.register.specs.Registered.{standing, On, Registered}
 use Rattle.register.specs.Events.{Event, nothing, Allowed, Then, Says, adds, removes, all, uncountedIn, uncountedOut, sumOf, Signed}
 use Rattle.story.specs.Shared.{Shared, workerOf, Call, start, step, Told}
 

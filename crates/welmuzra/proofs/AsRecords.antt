@@ -1,4 +1,4 @@
--- Over the words of records each test is the one over the records, and what is stored are the words of what is stored there.
+-- Over the words of records each test is the one over the records, and what is recordPut are the words of what is recordPut there.
 -- Assumes nothing.
 use Prim.Native.Nat.{ℕ, _≤_}
 use mathlib.Core.Path.{_≡_, refl, sym, ap, _∙_}
@@ -29,7 +29,7 @@ use Rattle.crew.specs.declared.Ready.{Ready}
 use Rattle.crew.specs.Crew.{turnAt, oneCall, filled, wants, prepareOne, made}
 use Rattle.crew.proofs.Laws.{none-for}
 use Rattle.welmuzra.specs.Words.{headerWords, recordOf, wordsAt}
-use Rattle.welmuzra.specs.Calls.{Own, own, says, told, kept, readied, prepareWords}
+use Rattle.welmuzra.specs.Calls.{Replied, replied, says, replyOf, kept, readied, prepareWords}
 use Rattle.welmuzra.specs.Promises.{packed, wordsOf, CallAsRecords, PrepareAsRecords}
 use Rattle.welmuzra.proofs.Promises.{call-unchanged}
 use Rattle.welmuzra.proofs.Packed.{record-back, words-packed, stored-packed, few-packed, cleared-packed}
@@ -44,22 +44,22 @@ chosen f false x y a b p q = q refl
 taken : (ws : List Worker) (w : ℕ) → recordOf (wordsAt (packed ws) w) ≡ getD ws w idle
 taken ws w = ap recordOf (words-packed ws w) ∙ record-back (getD ws w idle)
 
--- what a start or a step hands back, stored in the words and in the records
+-- what a start or a step hands back, recordPut in the words and in the records
 kept-packed :
     (h : Header) (ws : List Worker) (w : ℕ) (o : Outcome) → (un.Refusal (o .called .answer) → un.HandedBack (turnAt h ws w) o)
-    → kept (headerWords h) (packed ws) w o ≡ own (told (o .called)) (headerWords (o .called .header)) (packed (set ws w (o .worker)))
+    → kept (headerWords h) (packed ws) w o ≡ replied (replyOf (o .called)) (headerWords (o .called .header)) (packed (set ws w (o .worker)))
 unfolding kept
 kept-packed h ws w o back =
-    by-bool (λ (k : Own). k ≡ own (told (o .called)) (headerWords (o .called .header)) (packed (set ws w (o .worker)))) (refuses (o .called .answer))
+    by-bool (λ (k : Replied). k ≡ replied (replyOf (o .called)) (headerWords (o .called .header)) (packed (set ws w (o .worker)))) (refuses (o .called .answer))
     (λ e. let b = back e in rw (b .header, b .worker, set-getD ws w idle))
-    (λ _. ap (own (told (o .called)) (headerWords (o .called .header))) (stored-packed ws w (o .worker)))
+    (λ _. ap (replied (replyOf (o .called)) (headerWords (o .called .header))) (stored-packed ws w (o .worker)))
 
 -- a call in the words and in the records
 pub call-as-records : CallAsRecords
 call-as-records h ws w c ts =
     let l = oneCall (turnAt h ws w) (ltb (length ws) (h .w)) c ts in
     rw (few-packed ws (h .w), taken ws w)
-    (ap (λ (o : Own). left o (l .tables)) (kept-packed h ws w (l .out) (λ r. call-unchanged (turnAt h ws w) (ltb (length ws) (h .w)) c ts r .back)))
+    (ap (λ (o : Replied). left o (l .tables)) (kept-packed h ws w (l .out) (λ r. call-unchanged (turnAt h ws w) (ltb (length ws) (h .w)) c ts r .back)))
 
 -- what preparing hands back, in the words and in the records
 abbrev Readied : Limits → Header → List Worker → Left Called → Type 0
@@ -79,5 +79,5 @@ prepare-as-records l h ws ts =
     rw (few-packed ws (l .w))
     (chosen (λ (k : Left Ready). wordsOf (made ws k)) (ltb (length ws) (l .w)) _ _ _ _ none (λ e. readied-packed l h ws ts (ltb-false (length ws) (l .w) e)))
   where
-    none : left (own (says (tooFewFor l) 0) (headerWords h) (packed ws)) ts ≡ wordsOf (made ws (left (wants (l .w) (answered (tooFewFor l) h)) ts))
-    none = ap (λ (n : ℕ). left (own (says (tooFewFor l) 0) (headerWords h) (packed (filled n idle ws))) ts) (sym (pick-false (goesOn (tooFewFor l)) (l .w) 0 (none-for l)))
+    none : left (replied (says (tooFewFor l) 0) (headerWords h) (packed ws)) ts ≡ wordsOf (made ws (left (wants (l .w) (answered (tooFewFor l) h)) ts))
+    none = ap (λ (n : ℕ). left (replied (says (tooFewFor l) 0) (headerWords h) (packed (filled n idle ws))) ts) (sym (pick-false (goesOn (tooFewFor l)) (l .w) 0 (none-for l)))

@@ -28,8 +28,8 @@ use Rattle.register.specs.Step.{refusedWith}
 use Rattle.register.specs.Calls.{askedOf}
 use Rattle.register.proofs.Laws.{past-asked}
 use Rattle.crew.specs.Crew.{oneCall}
-use Rattle.welmuzra.specs.Calls.{Own, own, says, turnOf, lacksRecords, kept, callWords}
-use Rattle.welmuzra.specs.Words.{RECORD, headerOf, markWord, recordOf, lacks, wordsAt, laid}
+use Rattle.welmuzra.specs.Calls.{Replied, replied, says, turnIn, lacksRecords, kept, callWords}
+use Rattle.welmuzra.specs.Words.{RECORD, headerOf, markWord, recordOf, lacks, wordsAt, wordsPut}
 
 -- record w of a table that has it is the one that its fifteen words are
 pub record-within : (n : ℕ) (rs : List ℕ) (w : ℕ) → n ≡ RECORD → lacks rs w ≡ false → recordOf (take n (drop (w * RECORD) rs)) ≡ recordOf (wordsAt rs w)
@@ -46,7 +46,7 @@ module _ (hs rs : List ℕ) (w : ℕ) (c : Call) (ts : Tables) where
   few = lacksRecords (length rs) (headerOf hs .w)
 
   abbrev t : Turn
-  t = turnOf hs rs w
+  t = turnIn hs rs w
 
   missing-refuses : (b : Bool) → refuses (missing (headerOf hs) b (lengths ts)) ≡ true
   unfolding missing
@@ -54,20 +54,20 @@ module _ (hs rs : List ℕ) (w : ℕ) (c : Call) (ts : Tables) where
 
   -- refused, the words are as they came
   none : (b : Bool) → oneCall t few c ts ≡ left (refusedWith (missing (headerOf hs) b (lengths ts)) t) ts
-      → left (own (says (missing (headerOf hs) b (lengths ts)) 0) hs rs) ts ≡ callWords hs rs w c ts
+      → left (replied (says (missing (headerOf hs) b (lengths ts)) 0) hs rs) ts ≡ callWords hs rs w c ts
   unfolding kept
-  none b e = ap (λ (o : Own). left o ts) (sym (pick-true _ _ _ (missing-refuses b))) ∙ ap (λ (l : Left Outcome). left (kept hs rs w (l .out)) (l .tables)) (sym e)
+  none b e = ap (λ (o : Replied). left o ts) (sym (pick-true _ _ _ (missing-refuses b))) ∙ ap (λ (l : Left Outcome). left (kept hs rs w (l .out)) (l .tables)) (sym e)
 
-  pub too-few : few ≡ true → left (own (says (missing (headerOf hs) true (lengths ts)) 0) hs rs) ts ≡ callWords hs rs w c ts
+  pub too-few : few ≡ true → left (replied (says (missing (headerOf hs) true (lengths ts)) 0) hs rs) ts ≡ callWords hs rs w c ts
   unfolding oneCall
   too-few e = none true (pick-true _ _ _ e ∙ ap (λ (b : Bool). left (refusedWith (missing (headerOf hs) b (lengths ts)) t) ts) e)
 
-  -- where there are enough records, the register's own call
+  -- where there are enough records, the register's replied call
   pub there-is : few ≡ false → oneCall t few c ts ≡ askedOf t c ts
   unfolding oneCall
   there-is e = pick-false _ _ _ e
 
-  pub no-worker : few ≡ false → headerOf hs .w ≤ w → left (own (says (missing (headerOf hs) false (lengths ts)) 0) hs rs) ts ≡ callWords hs rs w c ts
+  pub no-worker : few ≡ false → headerOf hs .w ≤ w → left (replied (says (missing (headerOf hs) false (lengths ts)) 0) hs rs) ts ≡ callWords hs rs w c ts
   no-worker e l = none false (there-is e ∙ past-asked t c ts (le-leb (headerOf hs .w) w l))
 
 -- ---- storing goes turn by turn
@@ -77,14 +77,14 @@ unfolding pick
 mark-byte true = refl
 mark-byte false = refl
 
-pub laid-suc : (n : ℕ) (ws : List ℕ) (at : ℕ) (rs : List ℕ) → laid (n + 1) ws at rs ≡ set (laid n ws at rs) (at + n) (getD ws n 0)
-unfolding laid
+pub laid-suc : (n : ℕ) (ws : List ℕ) (at : ℕ) (rs : List ℕ) → wordsPut (n + 1) ws at rs ≡ set (wordsPut n ws at rs) (at + n) (getD ws n 0)
+unfolding wordsPut
 laid-suc n ws at rs = rw (add-one n)
 
-pub laid-length : (n : ℕ) (ws : List ℕ) (at : ℕ) (rs : List ℕ) → length (laid n ws at rs) ≡ length rs
-unfolding laid
+pub laid-length : (n : ℕ) (ws : List ℕ) (at : ℕ) (rs : List ℕ) → length (wordsPut n ws at rs) ≡ length rs
+unfolding wordsPut
 laid-length zero ws at rs = refl
-laid-length (suc n) ws at rs = length-set (laid n ws at rs) (at + n) (getD ws n 0) ∙ laid-length n ws at rs
+laid-length (suc n) ws at rs = length-set (wordsPut n ws at rs) (at + n) (getD ws n 0) ∙ laid-length n ws at rs
 
 -- a register that is prepared has at most 16 workers
 pub prepared-small : (l : Limits) (h : Header) (ts : Tables) → refuses (prepared l h ts .out .answer) ≡ false → l .w ≤ 16

@@ -19,15 +19,15 @@ use Rattle.scans.proofs.Laws.{cleared-none}
 use Rattle.words.specs.Words.{store}
 use Rattle.crew.specs.Crew.{filled}
 use Rattle.crew.proofs.Laws.{filled-length}
-use Rattle.welmuzra.specs.Words.{RECORD, zeros, placeOf, markWord, recordWords, lacks, laid, wordsAt, stored}
+use Rattle.welmuzra.specs.Words.{RECORD, zeros, placeRead, markWord, recordWords, lacks, wordsPut, wordsAt, recordPut}
 use Rattle.welmuzra.specs.Promises.{HeaderBack, RecordBack, WordsBack, packed}
 
 pub header-back : HeaderBack
 header-back h = refl
 
 -- the word of a mark is 0 or 1, so the place stays
-place-back : (b : Bool) (p : ℕ) → placeOf (markWord b) p ≡ p
-unfolding placeOf pick
+place-back : (b : Bool) (p : ℕ) → placeRead (markWord b) p ≡ p
+unfolding placeRead pick
 place-back true p = refl
 place-back false p = refl
 
@@ -46,8 +46,8 @@ mark-word-back zero h = refl
 mark-word-back (suc zero) h = refl
 mark-word-back (suc (suc m)) h = absurd (omega arith)
 
-place-kept : (m p : ℕ) → m ≤ 1 → placeOf m p ≡ p
-unfolding placeOf
+place-kept : (m p : ℕ) → m ≤ 1 → placeRead m p ≡ p
+unfolding placeRead
 place-kept m p h = pick-false _ _ _ (le-ltb 1 m h)
 
 pub words-back : WordsBack
@@ -62,17 +62,17 @@ set-append-add : (xs ys : List ℕ) (n v : ℕ) → set (xs ++ ys) (length xs + 
 set-append-add [] ys n v = rw (zero-add n)
 set-append-add (x ∷ xs) ys n v = rw (suc-add (length xs) n) (ap (λ (l : List ℕ). x ∷ l) (set-append-add xs ys n v))
 
-laid-past : (n : ℕ) (ws : List ℕ) (at : ℕ) (xs rs : List ℕ) → laid n ws (length xs + at) (xs ++ rs) ≡ xs ++ laid n ws at rs
-unfolding laid
+laid-past : (n : ℕ) (ws : List ℕ) (at : ℕ) (xs rs : List ℕ) → wordsPut n ws (length xs + at) (xs ++ rs) ≡ xs ++ wordsPut n ws at rs
+unfolding wordsPut
 laid-past zero ws at xs rs = refl
-laid-past (suc n) ws at xs rs = rw (laid-past n ws at xs rs, add-assoc (length xs) at n) (set-append-add xs (laid n ws at rs) (at + n) (getD ws n 0))
+laid-past (suc n) ws at xs rs = rw (laid-past n ws at xs rs, add-assoc (length xs) at n) (set-append-add xs (wordsPut n ws at rs) (at + n) (getD ws n 0))
 
 one-more : (w : ℕ) → suc w * RECORD ≡ RECORD + w * RECORD
 one-more w = omega arith
 
 -- storing the first record's words
-laid-first : (x y : Worker) (rs : List ℕ) → laid RECORD (recordWords x) 0 (recordWords y ++ rs) ≡ recordWords x ++ rs
-unfolding laid
+laid-first : (x y : Worker) (rs : List ℕ) → wordsPut RECORD (recordWords x) 0 (recordWords y ++ rs) ≡ recordWords x ++ rs
+unfolding wordsPut
 laid-first x y rs = refl
 
 -- the words of record w of the packed records
@@ -83,11 +83,11 @@ taken-packed (x ∷ xs) (suc w) h =
     ap (λ (at : ℕ). take RECORD (drop at (packed (x ∷ xs)))) (one-more w) ∙ ap (take RECORD) (drop-append-add (recordWords x) (packed xs) (w * RECORD)) ∙
     taken-packed xs w (omega arith)
 
-laid-packed : (ws : List Worker) (w : ℕ) (x : Worker) → w < length ws → laid RECORD (recordWords x) (w * RECORD) (packed ws) ≡ packed (set ws w x)
+laid-packed : (ws : List Worker) (w : ℕ) (x : Worker) → w < length ws → wordsPut RECORD (recordWords x) (w * RECORD) (packed ws) ≡ packed (set ws w x)
 laid-packed [] w x h = absurd (omega arith)
 laid-packed (y ∷ ys) zero x h = laid-first x y (packed ys)
 laid-packed (y ∷ ys) (suc w) x h =
-    ap (λ (at : ℕ). laid RECORD (recordWords x) at (packed (y ∷ ys))) (one-more w) ∙ laid-past RECORD (recordWords x) (w * RECORD) (recordWords y) (packed ys) ∙
+    ap (λ (at : ℕ). wordsPut RECORD (recordWords x) at (packed (y ∷ ys))) (one-more w) ∙ laid-past RECORD (recordWords x) (w * RECORD) (recordWords y) (packed ys) ∙
     ap (λ (l : List ℕ). recordWords y ++ l) (laid-packed ys w x (omega arith))
 
 -- the packed records have all the words of record w exactly where there is a record w
@@ -111,11 +111,11 @@ words-packed ws w = by (ltb w (length ws)) refl
         let h = ltb-false w (length ws) e in
         pick-true _ _ _ (lacks-past ws w h) ∙ zeros-idle ∙ ap recordWords (sym (List·getD-eq-default ws idle h))
 
-pub stored-packed : (ws : List Worker) (w : ℕ) (x : Worker) → stored (packed ws) w (recordWords x) ≡ packed (set ws w x)
-unfolding stored
+pub stored-packed : (ws : List Worker) (w : ℕ) (x : Worker) → recordPut (packed ws) w (recordWords x) ≡ packed (set ws w x)
+unfolding recordPut
 stored-packed ws w x = by (ltb w (length ws)) refl
   where
-    by : (t : Bool) → ltb w (length ws) ≡ t → pick (lacks (packed ws) w) (packed ws) (laid RECORD (recordWords x) (w * RECORD) (packed ws)) ≡ packed (set ws w x)
+    by : (t : Bool) → ltb w (length ws) ≡ t → pick (lacks (packed ws) w) (packed ws) (wordsPut RECORD (recordWords x) (w * RECORD) (packed ws)) ≡ packed (set ws w x)
     by true e = let h = ltb-true w (length ws) e in pick-false _ _ _ (lacks-packed ws w h) ∙ laid-packed ws w x h
     by false e = let h = ltb-false w (length ws) e in pick-true _ _ _ (lacks-past ws w h) ∙ ap packed (sym (set-out ws w x h))
 
@@ -132,8 +132,8 @@ unfolding cleared store
 cleared-one k rs = refl
 
 -- words more that are 0 are words of an idle record
-cleared-laid : (n at : ℕ) (rs : List ℕ) → n ≤ RECORD → cleared (at + n) rs ≡ laid n zeros at (cleared at rs)
-unfolding laid
+cleared-laid : (n at : ℕ) (rs : List ℕ) → n ≤ RECORD → cleared (at + n) rs ≡ wordsPut n zeros at (cleared at rs)
+unfolding wordsPut
 cleared-laid zero at rs h = rw (add-zero at)
 cleared-laid (suc n) at rs h =
     ap (λ (k : ℕ). cleared k rs) (add-suc at n) ∙ cleared-one (at + n) rs ∙

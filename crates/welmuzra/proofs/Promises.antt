@@ -1,4 +1,4 @@
--- A call over words goes by the same tests as the register's own call; what that call hands back where it refuses is what it was handed.
+-- A call over words goes by the same tests as the register's replied call; what that call hands back where it refuses is what it was handed.
 -- Assumes nothing.
 use Prim.Native.Nat.{ℕ, _*_, _+_, _≤_, _<_}
 use native.Mathlib.Omega.{arith}
@@ -31,9 +31,9 @@ use Rattle.promises.specs.Unchanged as un
 use Rattle.promises.proofs.Unchanged.{start-unchanged, step-unchanged, prepare-unchanged}
 use Rattle.crew.specs.Crew.{oneCall}
 use Rattle.crew.specs.One.{turn}
-use Rattle.welmuzra.specs.Words.{RECORD, MARK, zeros, headerOf, placeOf, recordOf, lacks, wordsAt}
-use Rattle.welmuzra.specs.Calls.{Own, own, says, told, kept, turnOf, lacksRecords, readied, prepareWords}
-use Rattle.welmuzra.specs.Promises.{Refused, CallUnchanged, StartWritesNeither, PrepareUnchanged, NoRecord}
+use Rattle.welmuzra.specs.Words.{RECORD, MARK, zeros, headerOf, placeRead, recordOf, lacks, wordsAt}
+use Rattle.welmuzra.specs.Calls.{Replied, replied, says, replyOf, kept, turnIn, lacksRecords, readied, prepareWords}
+use Rattle.welmuzra.specs.Promises.{Refused, CallWordsUnchanged, StartWritesNeither, PrepareWordsUnchanged, NoRecord}
 
 -- a number is one answer's alone
 refusal : (a : Answer) (steps : ℕ) → Refused (says a steps) → un.Refusal a
@@ -42,9 +42,9 @@ refusal a steps r = ap refuses (one-number a (r .of) (r .number)) ∙ r .refusal
 -- header and records are as they came where the answer refuses
 kept-answer : (hs rs : List ℕ) (w : ℕ) (o : Outcome) → kept hs rs w o .reply ≡ says (o .called .answer) (o .called .steps)
 unfolding kept
-kept-answer hs rs w o = by-bool (λ (k : Own). k .reply ≡ says (o .called .answer) (o .called .steps)) (refuses (o .called .answer)) (λ _. refl) (λ _. refl)
+kept-answer hs rs w o = by-bool (λ (k : Replied). k .reply ≡ says (o .called .answer) (o .called .steps)) (refuses (o .called .answer)) (λ _. refl) (λ _. refl)
 
-kept-refused : (hs rs : List ℕ) (w : ℕ) (o : Outcome) → un.Refusal (o .called .answer) → kept hs rs w o ≡ own (says (o .called .answer) (o .called .steps)) hs rs
+kept-refused : (hs rs : List ℕ) (w : ℕ) (o : Outcome) → un.Refusal (o .called .answer) → kept hs rs w o ≡ replied (says (o .called .answer) (o .called .steps)) hs rs
 unfolding kept
 kept-refused hs rs w o r = pick-true _ _ _ r
 
@@ -59,39 +59,39 @@ call-unchanged t few c ts =
     both (λ (l : Left Outcome). un.Refusal (l .out .called .answer) → un.Untouched t ts l) few
     (λ _. record { tables = refl; back = record { header = refl; worker = refl; steps = refl } }) (asked-unchanged t c ts)
 
-pub call-words-unchanged : CallUnchanged
+pub call-words-unchanged : CallWordsUnchanged
 call-words-unchanged hs rs w c ts r =
-    let t = turnOf hs rs w in
+    let t = turnIn hs rs w in
     let few = lacksRecords (length rs) (headerOf hs .w) in
     let o = oneCall t few c ts .out in
     let f = refusal (o .called .answer) (o .called .steps) (rw (kept-answer hs rs w o) at r) in
     let u = call-unchanged t few c ts f in
     let e = kept-refused hs rs w o f in
-    rw (u .tables) (ap (λ (k : Own). left k ts) (e ∙ ap (λ (k : Own). own (k .reply) hs rs) (sym e)))
+    rw (u .tables) (ap (λ (k : Replied). left k ts) (e ∙ ap (λ (k : Replied). replied (k .reply) hs rs) (sym e)))
 
 pub start-writes-neither : StartWritesNeither
 unfolding oneCall
 start-writes-neither hs rs w kind key ts = both (λ (l : Left Outcome). l .tables ≡ ts) (lacksRecords (length rs) (headerOf hs .w)) refl refl
 
-readied-answer : (w : ℕ) (hs rs : List ℕ) (c : Called) → readied w hs rs c .reply ≡ told c
+readied-answer : (w : ℕ) (hs rs : List ℕ) (c : Called) → readied w hs rs c .reply ≡ replyOf c
 unfolding readied
-readied-answer w hs rs c = by-bool (λ (k : Own). k .reply ≡ told c) (refuses (c .answer)) (λ _. refl) (λ _. refl)
+readied-answer w hs rs c = by-bool (λ (k : Replied). k .reply ≡ replyOf c) (refuses (c .answer)) (λ _. refl) (λ _. refl)
 
-readied-refused : (w : ℕ) (hs rs : List ℕ) (c : Called) → un.Refusal (c .answer) → readied w hs rs c ≡ own (told c) hs rs
+readied-refused : (w : ℕ) (hs rs : List ℕ) (c : Called) → un.Refusal (c .answer) → readied w hs rs c ≡ replied (replyOf c) hs rs
 unfolding readied
 readied-refused w hs rs c r = pick-true _ _ _ r
 
-pub prepare-words-unchanged : PrepareUnchanged
+pub prepare-words-unchanged : PrepareWordsUnchanged
 unfolding prepareWords
 prepare-words-unchanged l hs rs ts =
-    by-bool (λ (k : Left Own). Refused (k .out .reply) → k ≡ left (own (k .out .reply) hs rs) ts) (lacksRecords (length rs) (l .w))
+    by-bool (λ (k : Left Replied). Refused (k .out .reply) → k ≡ left (replied (k .out .reply) hs rs) ts) (lacksRecords (length rs) (l .w))
     (λ _ r. refl)
     (λ _ r.
     let c = prepared l (headerOf hs) ts .out in
     let f = refusal (c .answer) (c .steps) (rw (readied-answer (l .w) hs rs c) at r) in
     let u = prepare-unchanged l (headerOf hs) ts f in
     let e = readied-refused (l .w) hs rs c f in
-    rw (u .tables) (ap (λ (k : Own). left k ts) (e ∙ ap (λ (k : Own). own (k .reply) hs rs) (sym e))))
+    rw (u .tables) (ap (λ (k : Replied). left k ts) (e ∙ ap (λ (k : Replied). replied (k .reply) hs rs) (sym e))))
 
 -- ---- words that are no record
 unknown-place : (h : Header) (w : ℕ) (x : Worker) → D6 < x .place → workerDamaged h w x ≡ true
@@ -102,7 +102,7 @@ mark-read : (rs : List ℕ) (at : ℕ) → getD (take RECORD (drop at rs)) MARK 
 mark-read rs at = getD-take RECORD (drop at rs) MARK 0 (omega arith) ∙ getD-drop at rs MARK 0
 
 no-place : (rs : List ℕ) (w : ℕ) → w * RECORD + RECORD ≤ length rs → 1 < getD rs (w * RECORD + MARK) 0 → recordOf (wordsAt rs w) .place ≡ D6 + 1
-unfolding wordsAt placeOf
+unfolding wordsAt placeRead
 no-place rs w all bad =
     rw (pick-false (lacks rs w) zeros (take RECORD (drop (w * RECORD) rs)) (le-ltb _ _ all), mark-read rs (w * RECORD))
     (pick-true _ _ _ (lt-ltb _ _ bad))
@@ -116,4 +116,4 @@ no-record hs rs w ts sound enough long is-worker bad =
     let v = pick-false _ _ _ sound ∙ pick-false _ _ _ long ∙ pick-false _ _ _ (lt-leb (h .w) w is-worker) ∙ pick-true _ _ _ d in
     ap (λ (l : Left Outcome). left (kept hs rs w (l .out)) (l .tables))
     (pick-false _ _ _ (le-ltb (length rs) (h .w * RECORD) enough) ∙ ap (λ (v : Verdict). steppedBy (turn h w x) ts v) v) ∙
-    ap (λ (k : Own). left k ts) (kept-refused hs rs w (refusedWith Damaged (turn h w x)) refl)
+    ap (λ (k : Replied). left k ts) (kept-refused hs rs w (refusedWith Damaged (turn h w x)) refl)

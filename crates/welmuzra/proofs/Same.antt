@@ -9,7 +9,7 @@ use denote.Ref.{now}
 use borrow.Fn.Kinds.{Dens, resT, endedOf}
 use Rattle.words.specs.Words.{Tables, tables, Left, left}
 use Rattle.welmuzra.specs.declared.Reply.{Reply}
-use Rattle.welmuzra.specs.Calls.{Own, own}
+use Rattle.welmuzra.specs.Calls.{Replied, replied}
 use Rattle.welmuzra.proofs.welmuzra_prepare.Reads as prepare
 use Rattle.welmuzra.proofs.welmuzra_prepare.Kinds as prepare-kinds
 use Rattle.welmuzra.proofs.welmuzra_start.Reads as start
@@ -18,11 +18,11 @@ use Rattle.welmuzra.proofs.welmuzra_step.Reads as step
 use Rattle.welmuzra.proofs.welmuzra_step.Kinds as step-kinds
 
 -- what two calls leave that leave the same: the same answer, and the same words of header, records, nodes and buckets
-same : (l : Left Own) (x y : Reply) (hs hs′ rs rs′ : List ℕ) (ts ts′ : Tables) → left (own x hs rs) ts ≡ l → left (own y hs′ rs′) ts′ ≡ l
+same : (l : Left Replied) (x y : Reply) (hs hs′ rs rs′ : List ℕ) (ts ts′ : Tables) → left (replied x hs rs) ts ≡ l → left (replied y hs′ rs′) ts′ ≡ l
     → (x ≡ y) × (hs ≡ hs′) × (rs ≡ rs′) × (ts .nodes ≡ ts′ .nodes) × (ts .buckets ≡ ts′ .buckets)
 same l x y hs hs′ rs rs′ ts ts′ p q =
     let e = p ∙ sym q in
-    (ap (λ (k : Left Own). k .out .reply) e, ap (λ (k : Left Own). k .out .header) e, ap (λ (k : Left Own). k .out .records) e, ap (λ (k : Left Own). k .tables .nodes) e, ap (λ (k : Left Own). k .tables .buckets) e)
+    (ap (λ (k : Left Replied). k .out .reply) e, ap (λ (k : Left Replied). k .out .header) e, ap (λ (k : Left Replied). k .out .records) e, ap (λ (k : Left Replied). k .tables .nodes) e, ap (λ (k : Left Replied). k .tables .buckets) e)
 
 -- two preparings on the same arguments
 pub prepare-same : (κs : Lfts 4) (a : Dens κs prepare-kinds.ps) (x y : resT prepare-kinds.r κs .Denot) (e f : AtExit (endedOf 4 prepare-kinds.ps prepare-kinds.r) κs)

@@ -18,7 +18,7 @@ use Rattle.register.specs.declared.Call.the-variants.{Start, Step}
 use Rattle.crew.specs.Crew.{Crew, callAt, prepareAt}
 use Rattle.welmuzra.specs.declared.Reply.{Reply}
 use Rattle.welmuzra.specs.Words.{RECORD, MARK, headerOf, headerWords, recordOf, recordWords}
-use Rattle.welmuzra.specs.Calls.{Own, own, says, told, callWords, prepareWords}
+use Rattle.welmuzra.specs.Calls.{Replied, replied, says, replyOf, callWords, prepareWords}
 
 -- ---- there and back
 -- a header and a record are what their words are
@@ -45,15 +45,15 @@ pub record Refused (r : Reply) : Type 0 where
   pub refusal : refuses of ≡ true
   pub number : r .answer ≡ numberOf of
 
-abbrev pub CallUnchanged : Type 0
-CallUnchanged =
+abbrev pub CallWordsUnchanged : Type 0
+CallWordsUnchanged =
     (hs rs : List ℕ) (w : ℕ) (c : Call) (ts : Tables) → Refused (callWords hs rs w c ts .out .reply)
-    → callWords hs rs w c ts ≡ left (own (callWords hs rs w c ts .out .reply) hs rs) ts
+    → callWords hs rs w c ts ≡ left (replied (callWords hs rs w c ts .out .reply) hs rs) ts
 
-abbrev pub PrepareUnchanged : Type 0
-PrepareUnchanged =
+abbrev pub PrepareWordsUnchanged : Type 0
+PrepareWordsUnchanged =
     (l : Limits) (hs rs : List ℕ) (ts : Tables) → Refused (prepareWords l hs rs ts .out .reply)
-    → prepareWords l hs rs ts ≡ left (own (prepareWords l hs rs ts .out .reply) hs rs) ts
+    → prepareWords l hs rs ts ≡ left (replied (prepareWords l hs rs ts .out .reply) hs rs) ts
 
 -- ---- a start writes neither nodes nor buckets
 abbrev pub StartWritesNeither : Type 0
@@ -64,7 +64,7 @@ abbrev pub NoRecord : Type 0
 NoRecord =
     (hs rs : List ℕ) (w : ℕ) (ts : Tables) → headerDamaged (headerOf hs) ≡ false → headerOf hs .w * RECORD ≤ length rs
     → isShort (headerOf hs) (lengths ts) ≡ false → w < headerOf hs .w → 1 < getD rs (w * RECORD + MARK) 0
-    → callWords hs rs w Step ts ≡ left (own (says Damaged 0) hs rs) ts
+    → callWords hs rs w Step ts ≡ left (replied (says Damaged 0) hs rs) ts
 
 -- ---- over the words of records
 -- the words of the records, side by side
@@ -73,8 +73,8 @@ packed [] = []
 packed (x ∷ xs) = recordWords x ++ packed xs
 
 -- the words of what a call over the lent table of records leaves
-abbrev pub wordsOf : Left Crew → Left Own
-wordsOf l = left (own (told (l .out .called)) (headerWords (l .out .called .header)) (packed (l .out .workers))) (l .tables)
+abbrev pub wordsOf : Left Crew → Left Replied
+wordsOf l = left (replied (replyOf (l .out .called)) (headerWords (l .out .called .header)) (packed (l .out .workers))) (l .tables)
 
 abbrev pub CallAsRecords : Type 0
 CallAsRecords = (h : Header) (ws : List Worker) (w : ℕ) (c : Call) (ts : Tables) → callWords (headerWords h) (packed ws) w c ts ≡ wordsOf (callAt h ws w c ts)

@@ -26,8 +26,8 @@ abbrev pub MARK : ℕ
 MARK = 11
 
 -- the mark is 0 or 1; a word that is neither makes no record, and then the place is an unknown one
-unfoldable pub placeOf : ℕ → ℕ → ℕ
-placeOf mark place = pick (ltb 1 mark) (D6 + 1) place
+unfoldable pub placeRead : ℕ → ℕ → ℕ
+placeRead mark place = pick (ltb 1 mark) (D6 + 1) place
 
 abbrev pub markWord : Bool → ℕ
 markWord marked = pick marked 1 0
@@ -53,7 +53,7 @@ recordWith place ws =
     }
 
 abbrev pub recordOf : List ℕ → Worker
-recordOf ws = recordWith (placeOf (getD ws MARK 0) (getD ws 0 0)) ws
+recordOf ws = recordWith (placeRead (getD ws MARK 0) (getD ws 0 0)) ws
 
 abbrev pub recordWords : Worker → List ℕ
 recordWords x =
@@ -73,10 +73,10 @@ unfoldable pub wordsAt : List ℕ → ℕ → List ℕ
 wordsAt rs w = pick (lacks rs w) zeros (take RECORD (drop (w * RECORD) rs))
 
 -- the table once the first n of the words stand in it from `at` on
-unfoldable pub laid : ℕ → List ℕ → ℕ → List ℕ → List ℕ
-laid zero ws at rs = rs
-laid (suc n) ws at rs = set (laid n ws at rs) (at + n) (getD ws n 0)
+unfoldable pub wordsPut : ℕ → List ℕ → ℕ → List ℕ → List ℕ
+wordsPut zero ws at rs = rs
+wordsPut (suc n) ws at rs = set (wordsPut n ws at rs) (at + n) (getD ws n 0)
 
 -- the table with the words of record w; past the table there is nothing to store
-unfoldable pub stored : List ℕ → ℕ → List ℕ → List ℕ
-stored rs w ws = pick (lacks rs w) rs (laid RECORD ws (w * RECORD) rs)
+unfoldable pub recordPut : List ℕ → ℕ → List ℕ → List ℕ
+recordPut rs w ws = pick (lacks rs w) rs (wordsPut RECORD ws (w * RECORD) rs)

@@ -6,8 +6,8 @@ ghost use lib.ListN.{length};
 ghost use Rattle.names.specs.Names.{refuses};
 ghost use Rattle.words.specs.Words.{tables, left};
 ghost use Rattle.register.specs.declared.Call.the-variants.{Start, Step};
-ghost use Rattle.welmuzra.specs.Words.{RECORD, headerOf, headerWords, placeOf, recordOf, recordWords, wordsAt, stored};
-ghost use Rattle.welmuzra.specs.Calls.{own, lacksRecords, says, told, kept, callWords, limits, readied, prepareWords};
+ghost use Rattle.welmuzra.specs.Words.{RECORD, headerOf, headerWords, placeRead, recordOf, recordWords, wordsAt, recordPut};
+ghost use Rattle.welmuzra.specs.Calls.{replied, lacksRecords, says, replyOf, kept, callWords, limits, readied, prepareWords};
 use acts::Called;
 use acts::Outcome;
 use header::Header;
@@ -55,7 +55,7 @@ fn header_words(h: Header) -> [u32; HEADER]
 
 // A mark that is neither 0 nor 1 makes no record: its place is an unknown one.
 fn place_of(mark: u32, place: u32) -> u32
-    ensures { λ r. ⌜ r ≡ placeOf mark place ⌝ }
+    ensures { λ r. ⌜ r ≡ placeRead mark place ⌝ }
 {
     if 1 < mark {
         return place::D6 + 1;
@@ -91,7 +91,7 @@ fn record_at(records: &[u32], w: u32) -> Worker
 
 // Record w goes into its place; past the table there is nothing to store.
 fn store_record(records: &mut [u32], w: u32, x: Worker)
-    ensures { λ _. ⌜ now (records .exit) ≡ stored (now (records .entry)) w (recordWords x) ⌝ }
+    ensures { λ _. ⌜ now (records .exit) ≡ recordPut (now (records .entry)) w (recordWords x) ⌝ }
 {
     let at = (w as usize) * RECORD;
     if records.len() < at + RECORD {
@@ -140,7 +140,7 @@ fn refused(answer: Answer) -> Reply
 
 // What a call answers beside its words.
 fn told(called: Called) -> Reply
-    ensures { λ r. ⌜ r ≡ told called ⌝ }
+    ensures { λ r. ⌜ r ≡ replyOf called ⌝ }
 {
     let answer = called.answer;
     Reply {
@@ -151,7 +151,7 @@ fn told(called: Called) -> Reply
 
 // What a call hands back goes into the words, unless it is refused.
 fn keep(header: &mut [u32; HEADER], records: &mut [u32], w: u32, out: Outcome) -> Reply
-    ensures { λ r. ⌜ own r (now (header .exit)) (now (records .exit)) ≡ kept (now (header .entry)) (now (records .entry)) w out ⌝ }
+    ensures { λ r. ⌜ replied r (now (header .exit)) (now (records .exit)) ≡ kept (now (header .entry)) (now (records .entry)) w out ⌝ }
 {
     let called = out.called;
     let answer = called.answer;
@@ -173,7 +173,7 @@ fn serve(
     w: u32,
     call: Call,
 ) -> Reply
-    ensures { λ r. ⌜ left (own r (now (header .exit)) (now (records .exit))) (tables (now (nodes .exit)) (now (buckets .exit))) ≡ callWords (now (header .entry)) (now (records .entry)) w call (tables (now (nodes .entry)) (now (buckets .entry))) ⌝ }
+    ensures { λ r. ⌜ left (replied r (now (header .exit)) (now (records .exit))) (tables (now (nodes .exit)) (now (buckets .exit))) ≡ callWords (now (header .entry)) (now (records .entry)) w call (tables (now (nodes .entry)) (now (buckets .entry))) ⌝ }
 {
     let h = header_of(*header);
     let lengths = Lengths {
@@ -205,7 +205,7 @@ pub extern "C" fn welmuzra_step(
     buckets: &mut [u32],
     w: u32,
 ) -> Reply
-    ensures { λ r. ⌜ left (own r (now (header .exit)) (now (records .exit))) (tables (now (nodes .exit)) (now (buckets .exit))) ≡ callWords (now (header .entry)) (now (records .entry)) w Step (tables (now (nodes .entry)) (now (buckets .entry))) ⌝ }
+    ensures { λ r. ⌜ left (replied r (now (header .exit)) (now (records .exit))) (tables (now (nodes .exit)) (now (buckets .exit))) ≡ callWords (now (header .entry)) (now (records .entry)) w Step (tables (now (nodes .entry)) (now (buckets .entry))) ⌝ }
 {
     serve(header, records, nodes, buckets, w, Call::Step)
 }
@@ -221,7 +221,7 @@ pub extern "C" fn welmuzra_start(
     kind: u32,
     key: u32,
 ) -> Reply
-    ensures { λ r. ⌜ left (own r (now (header .exit)) (now (records .exit))) (tables (now (nodes .exit)) (now (buckets .exit))) ≡ callWords (now (header .entry)) (now (records .entry)) w (Start kind key) (tables (now (nodes .entry)) (now (buckets .entry))) ⌝ }
+    ensures { λ r. ⌜ left (replied r (now (header .exit)) (now (records .exit))) (tables (now (nodes .exit)) (now (buckets .exit))) ≡ callWords (now (header .entry)) (now (records .entry)) w (Start kind key) (tables (now (nodes .entry)) (now (buckets .entry))) ⌝ }
 {
     serve(
         header,
@@ -236,7 +236,7 @@ pub extern "C" fn welmuzra_start(
 // What preparing hands back goes into the words, unless it is refused.
 fn ready(header: &mut [u32; HEADER], records: &mut [u32], w: u32, called: Called) -> Reply
     requires { ⌜ (refuses (called .answer) ≡ false → w ≤ 16) ⌝ }
-    ensures { λ r. ⌜ own r (now (header .exit)) (now (records .exit)) ≡ readied w (now (header .entry)) (now (records .entry)) called ⌝ }
+    ensures { λ r. ⌜ replied r (now (header .exit)) (now (records .exit)) ≡ readied w (now (header .entry)) (now (records .entry)) called ⌝ }
 {
     let answer = called.answer;
     if answer.refuses() {
@@ -260,7 +260,7 @@ pub extern "C" fn welmuzra_prepare(
     w: u32,
     l: u32,
 ) -> Reply
-    ensures { λ r. ⌜ left (own r (now (header .exit)) (now (records .exit))) (tables (now (nodes .exit)) (now (buckets .exit))) ≡ prepareWords (limits m k w l) (now (header .entry)) (now (records .entry)) (tables (now (nodes .entry)) (now (buckets .entry))) ⌝ }
+    ensures { λ r. ⌜ left (replied r (now (header .exit)) (now (records .exit))) (tables (now (nodes .exit)) (now (buckets .exit))) ≡ prepareWords (limits m k w l) (now (header .entry)) (now (records .entry)) (tables (now (nodes .entry)) (now (buckets .entry))) ⌝ }
 {
     let limits = Limits { m, k, w, l };
     if lacks_records(records.len(), w) {

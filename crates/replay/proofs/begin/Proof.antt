@@ -8,9 +8,9 @@ use borrow.Author.Tests.{not-true, not-false}
 use Rattle.words.specs.Words.{tables, left}
 use Rattle.crew.specs.Crew.{crew}
 use Rattle.crew.proofs.Laws.{turns-left}
-use Rattle.replay.specs.Replay.{followed}
+use Rattle.replay.specs.Replay.{laterLines}
 use Rattle.text.proofs.Laying.{laid-on, laid-as}
-use Rattle.replay.proofs.Laws.{Leads, followed-stop, leads-on}
+use Rattle.replay.proofs.Laws.{Leads, later-stop, leads-on}
 use Rattle.replay.proofs.Ways.{begun-refused, begun-on}
 use Rattle.replay.proofs.begin.Statement.{statement}
 use Rattle.replay.proofs.begin.Tie as tie
@@ -18,7 +18,7 @@ use Rattle.replay.proofs.begin.Tie as tie
 abbrev Inv-loop : tie.InvT-loop
 Inv-loop schedule next nodes₀ buckets₀ out₀ bank₀ place₀ offset₀ turns₀ nodes buckets out bank place offset turns =
     (length nodes ≡ length nodes₀) × (length buckets ≡ length buckets₀) × (length out ≡ length out₀)
-    × Leads out place (followed schedule turns offset (left (crew (bank .called) (bank .workers)) (tables nodes buckets))) out₀ place₀ (followed schedule turns₀ offset₀ (left (crew (bank₀ .called) (bank₀ .workers)) (tables nodes₀ buckets₀)))
+    × Leads out place (laterLines schedule turns offset (left (crew (bank .called) (bank .workers)) (tables nodes buckets))) out₀ place₀ (laterLines schedule turns₀ offset₀ (left (crew (bank₀ .called) (bank₀ .workers)) (tables nodes₀ buckets₀)))
 
 abbrev μ-loop : tie.MeasureT-loop
 μ-loop schedule next nodes₀ buckets₀ out₀ bank₀ place₀ offset₀ turns₀ nodes buckets out bank place offset turns = turns
@@ -130,7 +130,7 @@ returns-2 c =
     let r = c .before .before .before .before .before .before .before .before .before .before .before .before .before .before .before .before .before .before .before .before .before .before .before .ready in
     let l = c .before .before .before .before .before .before .before .before .before .before .before .loop in
     let test = rw (c .before .before .before .before .before .before .before .before .before .before .is-played .ensures) at (c .before .before .before .before .before .before .before .before .before .if2 .left) in
-    let rest = l .inv .3 _ _ (laid-as (sym (followed-stop (a .schedule .now) (l .turns) (l .offset) (left (crew (l .bank .called) (l .bank .workers)) (tables (l .nodes) (l .buckets))) test)) (laid-on (c .before .before .before .before .before .before .before .put-stop .ensures) (c .before .before .put-last .ensures))) in
+    let rest = l .inv .3 _ _ (laid-as (sym (later-stop (a .schedule .now) (l .turns) (l .offset) (left (crew (l .bank .called) (l .bank .workers)) (tables (l .nodes) (l .buckets))) test)) (laid-on (c .before .before .before .before .before .before .before .put-stop .ensures) (c .before .before .put-last .ensures))) in
     let t = c .before .before .before .before .before .before .before .before .before .before .before .before .before .before .before .before .before .goes-on in
     laid-as (begun-on (a .schedule .now) (a .next) _ (left (crew (r .result .called) (r .result .workers)) (tables (r .last .1 .0) (r .last .1 .1 .0))) _ _ (r .ensures) (c .before .before .before .before .before .before .before .before .before .before .before .before .before .before .before .before .before .before .before .before .before .before .before .before .before .before .body-of .ensures) (c .before .before .before .before .before .before .before .before .before .before .before .before .before .before .before .before .before .before .answer-of .ensures) (sym (t .ensures) ∙ not-false (t .result) (c .before .before .before .before .before .before .before .before .before .before .before .before .before .before .before .before .if1 .left))) (laid-on (c .before .before .before .before .before .before .before .before .before .before .before .before .before .before .put-first .ensures) rest)
 

@@ -1,4 +1,4 @@
--- The number of records and the worker's number say which way the definition goes; then the register's own call is kept in the words.
+-- The number of records and the worker's number say which way the definition goes; then the register's replied call is kept in the words.
 -- Assumes nothing.
 use mathlib.Core.Path.{sym, ap, _∙_}
 use denote.Ref.{now}

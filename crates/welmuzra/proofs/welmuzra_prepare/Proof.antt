@@ -1,4 +1,4 @@
--- The number of records says which way the definition goes; then what the register's own preparing hands back is kept in the words.
+-- The number of records says which way the definition goes; then what the register's replied preparing hands back is kept in the words.
 -- Assumes nothing.
 use mathlib.Core.Path.{sym, ap, _∙_}
 use denote.Ref.{now}

@@ -16,8 +16,8 @@ abbrev pub standing : List ℕ → ℕ → ℕ
 standing ns n = word ns n STANDING
 
 -- a link is twice the number of the next node, and the mark
-abbrev pub after : List ℕ → ℕ → ℕ
-after ns n = link ns n / 2
+abbrev pub nextIn : List ℕ → ℕ → ℕ
+nextIn ns n = link ns n / 2
 
 abbrev pub mark : List ℕ → ℕ → ℕ
 mark ns n = link ns n % 2
@@ -25,7 +25,7 @@ mark ns n = link ns n % 2
 -- "on the chain from node 1"
 pub data On (ns : List ℕ) : ℕ → Type 0 where
   first : On ns 1
-  then : {n : ℕ} → On ns n → (after ns n ≡ 0 → ⊥) → On ns (after ns n)
+  then : {n : ℕ} → On ns n → (nextIn ns n ≡ 0 → ⊥) → On ns (nextIn ns n)
 
 -- "A key is registered if an unmarked node with its regular split key is on the chain from node 1"
 pub record Registered (ns : List ℕ) (k : ℕ) : Type 0 where
