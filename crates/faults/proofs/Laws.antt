@@ -2,13 +2,14 @@
 -- Assumes nothing.
 use Prim.Native.Nat.{ℕ, _≤_, _<_}
 use native.Mathlib.Omega.{arith}
-use mathlib.Core.Path.{_≡_, refl, ap, _∙_}
-use mathlib.Core.Logic.{⊎-elim}
+use mathlib.Core.Path.{_≡_, refl, sym, ap, _∙_}
 use mathlib.Core.Bool.{Bool, true, false, true≢false, false≢true, not, _||_, _&&_, or-true, or-false, and-true, and-false, and-assoc}
 use lib.Dec.{leb, eqb}
-use borrow.Author.Tests.{ne-eqb, lt-leb, le-ltb, eqb-true}
-use Rattle.choice.proofs.Telling.{tells-eq, tells-le, tells-or, tells-and}
-use Rattle.names.specs.Names.{IDLE, I1, B2, B4, F1, L2, B8, I8, I9, I10, D4A, D6, KEY, DUMMY, EXTRA, INSERT, DELETE}
+use borrow.Author.Tests.{ne-eqb, le-leb, lt-leb, le-ltb, eqb-true}
+use Rattle.choice.proofs.Telling.{both-true}
+use Rattle.names.specs.Names.{IDLE, F1, L2, I9, I10, KEY, DUMMY, EXTRA, INSERT, DELETE}
+use Rattle.names.specs.Places.{searching, bucketInMaking, insertOnly, deleteOnly, sizeRemembered, searches, needsInsert, needsDelete, remembersSize}
+use Rattle.names.proofs.Places.{apart, searches-within, size-within}
 use Rattle.header.specs.Header.{nodesOf}
 use Rattle.header.specs.declared.Header.{Header}
 use Rattle.record.specs.declared.Worker.{Worker}
@@ -24,74 +25,67 @@ after : (low high p : ℕ) → high < p → within low high p ≡ false
 after low high p l = rw (lt-leb p high l, and-false (leb low p))
 
 -- the rows of a place that the record does not stand at
-no-errand : (x : Worker) → within F1 L2 (x .place) ≡ false → (x .place ≡ L2 → ⊥) → errandMisfit x ≡ false
+no-errand : (x : Worker) → searches (x .place) ≡ false → errandMisfit x ≡ false
 unfolding errandMisfit
-no-errand x w n = rw (w, ne-eqb (x .place) L2 n)
+no-errand x n = rw (ne-eqb (x .place) L2 (λ e. true≢false (ap searches (sym e) ∙ n)), n)
 
-no-size : (h : Header) (x : Worker) → x .place < I9 → sizeMisfit h x ≡ false
+no-size : (h : Header) (x : Worker) → remembersSize (x .place) ≡ false → sizeMisfit h x ≡ false
 unfolding sizeMisfit
-no-size h x l = rw (before I9 I10 (x .place) l)
+no-size h x n = rw n
 
-no-kind : (x : Worker) → F1 ≤ x .place → x .place ≤ L2 → kindMisfit x ≡ false
+no-kind : (x : Worker) → searches (x .place) ≡ true → kindMisfit x ≡ false
 unfolding kindMisfit
-no-kind x l u = rw (ne-eqb (x .place) I1 (λ e. omega arith), before I8 I10 (x .place) (omega arith), before D4A D6 (x .place) (omega arith))
+no-kind x s = rw (apart searching insertOnly refl (x .place) s, apart searching deleteOnly refl (x .place) s)
 
-no-making : (x : Worker) → F1 ≤ x .place → x .place ≤ L2 → makingAstray x ≡ false
+no-making : (x : Worker) → searches (x .place) ≡ true → makingAstray x ≡ false
 unfolding makingAstray
-no-making x l u = rw (ne-eqb (x .place) B2 (λ e. omega arith), ne-eqb (x .place) B4 (λ e. omega arith), ne-eqb (x .place) B8 (λ e. omega arith))
+no-making x s = rw (apart searching bucketInMaking refl (x .place) s)
 
 -- before a search's places, at one of them, and after
 pub misfits-before : (h : Header) (x : Worker) → x .place < F1 → misfits h x ≡ (kindMisfit x || makingAstray x)
-misfits-before h x l = rw (no-errand x (before F1 L2 (x .place) l) (λ e. omega arith), no-size h x (omega arith), or-false (kindMisfit x), or-false (kindMisfit x || makingAstray x))
+misfits-before h x l =
+    let p = x .place in
+    rw (no-errand x (searches-within p ∙ before F1 L2 p l), no-size h x (size-within p ∙ before I9 I10 p (omega arith)), or-false (kindMisfit x), or-false (kindMisfit x || makingAstray x))
 
 pub misfits-within : (h : Header) (x : Worker) → F1 ≤ x .place → x .place ≤ L2 → misfits h x ≡ errandMisfit x
-misfits-within h x l u = rw (no-kind x l u, no-making x l u, no-size h x (omega arith), or-false (errandMisfit x), or-false (errandMisfit x))
+misfits-within h x l u =
+    let s : searches (x .place) ≡ true = searches-within (x .place) ∙ rw (le-leb F1 (x .place) l) (le-leb (x .place) L2 u) in
+    rw (no-kind x s, no-making x s, no-size h x (apart searching sizeRemembered refl (x .place) s), or-false (errandMisfit x), or-false (errandMisfit x))
 
 pub misfits-after : (h : Header) (x : Worker) → L2 < x .place → misfits h x ≡ (kindMisfit x || makingAstray x || sizeMisfit h x)
-misfits-after h x l = rw (no-errand x (after F1 L2 (x .place) l) (λ e. omega arith), or-false (kindMisfit x))
+misfits-after h x l = rw (no-errand x (searches-within (x .place) ∙ after F1 L2 (x .place) l), or-false (kindMisfit x))
 
 -- ---- the two rows of kind and errand, as the code asks them
-both : (s t : Bool) → (s && t) ≡ true → (s ≡ true) × (t ≡ true)
-both true t e = (refl, e)
-both false t e = absurd (false≢true e)
-
 module _ (x : Worker) where
-  abbrev inserts : Bool
-  inserts = eqb (x .place) I1 || within I8 I10 (x .place)
-
   -- an insert's place is no delete's
-  no-delete : inserts ≡ true → within D4A D6 (x .place) ≡ false
-  no-delete e =
-      ⊎-elim (λ at. before D4A D6 (x .place) (omega arith)) (λ in′. before D4A D6 (x .place) (omega (arith, in′ .1)))
-      (tells-or (tells-eq (x .place) I1) (tells-and (tells-le I8 (x .place)) (tells-le (x .place) I10)) .sound e)
-
-  pub kind-inserts : inserts ≡ true → kindMisfit x ≡ not (eqb (x .kind) INSERT)
+  pub kind-inserts : needsInsert (x .place) ≡ true → kindMisfit x ≡ not (eqb (x .kind) INSERT)
   unfolding kindMisfit
-  kind-inserts e = rw (no-delete e, e, or-false (not (eqb (x .kind) INSERT)))
+  kind-inserts e = rw (apart insertOnly deleteOnly refl (x .place) e, e, or-false (not (eqb (x .kind) INSERT)))
 
-  pub kind-deletes : inserts ≡ false → within D4A D6 (x .place) ≡ true → kindMisfit x ≡ not (eqb (x .kind) DELETE)
+  pub kind-deletes : needsInsert (x .place) ≡ false → needsDelete (x .place) ≡ true → kindMisfit x ≡ not (eqb (x .kind) DELETE)
   unfolding kindMisfit
   kind-deletes e f = rw (e, f)
 
-  pub kind-neither : inserts ≡ false → within D4A D6 (x .place) ≡ false → kindMisfit x ≡ false
+  pub kind-neither : needsInsert (x .place) ≡ false → needsDelete (x .place) ≡ false → kindMisfit x ≡ false
   unfolding kindMisfit
   kind-neither e f = rw (e, f)
 
   abbrev extra : Bool
   extra = eqb (x .errand) EXTRA && not (eqb (x .kind) DELETE)
 
-  at-search : (p : ℕ) → (eqb p L2 || within F1 L2 p) ≡ within F1 L2 p
+  -- L2 is a search's place
+  at-search : (p : ℕ) → (eqb p L2 || searches p) ≡ searches p
   at-search p = by (eqb p L2) refl
     where
-      by : (t : Bool) → eqb p L2 ≡ t → (t || within F1 L2 p) ≡ within F1 L2 p
+      by : (t : Bool) → eqb p L2 ≡ t → (t || searches p) ≡ searches p
       by true e = rw (eqb-true p L2 e)
       by false e = refl
 
-  pub errand-extra : extra ≡ true → errandMisfit x ≡ within F1 L2 (x .place)
+  pub errand-extra : extra ≡ true → errandMisfit x ≡ searches (x .place)
   unfolding errandMisfit
   errand-extra e =
-      let b = both (eqb (x .errand) EXTRA) (not (eqb (x .kind) DELETE)) e in
-      rw (b .1, eqb-true (x .errand) EXTRA (b .0), and-true (eqb (x .place) L2), and-true (within F1 L2 (x .place)), and-true (within F1 L2 (x .place)))
+      let b = both-true (eqb (x .errand) EXTRA) (not (eqb (x .kind) DELETE)) e in
+      rw (b .1, eqb-true (x .errand) EXTRA (b .0), and-true (eqb (x .place) L2), and-true (searches (x .place)), and-true (searches (x .place)))
       (at-search (x .place))
 
   pub errand-placing : extra ≡ false → x .place ≡ L2 → errandMisfit x ≡ not (eqb (x .errand) DUMMY || (eqb (x .errand) KEY && eqb (x .kind) INSERT))
@@ -100,7 +94,7 @@ module _ (x : Worker) where
 
   pub errand-other : extra ≡ false → (x .place ≡ L2 → ⊥) → errandMisfit x ≡ false
   unfolding errandMisfit
-  errand-other e p = rw (ne-eqb (x .place) L2 p, and-assoc (within F1 L2 (x .place)) (eqb (x .errand) EXTRA) (not (eqb (x .kind) DELETE)), e, and-false (within F1 L2 (x .place)))
+  errand-other e p = rw (ne-eqb (x .place) L2 p, and-assoc (searches (x .place)) (eqb (x .errand) EXTRA) (not (eqb (x .kind) DELETE)), e, and-false (searches (x .place)))
 
 -- ---- all ten rows, in the definition's order: name, key, bucket, node, bit, idle, and the four of the place
 abbrev rows : Bool → Bool → Bool → Bool → Bool → Bool → Bool → Bool

@@ -1,4 +1,5 @@
 pub mod Idle
 pub mod Laws
+pub mod Listed
 pub mod Rows
 pub mod Same

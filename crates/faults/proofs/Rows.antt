@@ -1,63 +1,28 @@
--- Each row of the record is a test joined of comparisons; places that are numbered one after another are those from the first to the last, and a path is the parents taken one by one.
+-- Each row of the record is a test joined of comparisons and of classes of places, and a path is the parents taken one by one.
 -- Assumes nothing.
-use Prim.Native.Nat.{ℕ, zero, suc, _+_, _≤_, _<_}
+use Prim.Native.Nat.{ℕ, zero, suc, _≤_}
 use native.Mathlib.Omega.{arith}
 use mathlib.Core.Path.{_≡_, refl}
-use mathlib.Core.Logic.{_⊎_, inl, inr, ⊎-elim}
+use mathlib.Core.Logic.{_⊎_, inl, inr}
 use mathlib.Core.Bool.{Bool, true, false, _||_, _&&_, not, or-assoc}
-use mathlib.Core.List.{List, [], _∷_}
 use lib.Dec.{ltb, eqb}
+use lib.ListN.{length}
 use borrow.Author.Tests.{eqb-true, eqb-false}
 use Rattle.choice.proofs.Exactly.{Tells}
 use Rattle.choice.proofs.Telling.{tells-as, tells-eq, tells-lt, tells-le, tells-or, tells-and, tells-not, tells-broken, Clears, clears-as, clears-eq, clears-lt, clears-not, clears-or, clears-and}
 use Rattle.tree.specs.Tree.{parentOf, onPath}
 use Rattle.tree.proofs.Laws.Path.{along-path, on-path-self, on-path-below}
 use Rattle.sets.specs.Sets.{bit, isIn}
-use Rattle.names.specs.Names.{IDLE, I1, B2, B4, F1, L2, B8, I8, I9, I10, D4A, D6, KEY, DUMMY, EXTRA, INSERT, DELETE, KEY-LIMIT}
+use Rattle.names.specs.Names.{IDLE, L2, I10, KEY, DUMMY, EXTRA, INSERT, DELETE, KEY-LIMIT}
+use Rattle.names.specs.Places.{searching, bucketInMaking, insertOnly, deleteOnly, sizeRemembered, places}
 use Rattle.header.specs.Header.{nodesOf}
 use Rattle.header.specs.declared.Header.{Header}
 use Rattle.header.proofs.Rows.{power-up-to}
 pub use Rattle.faults.proofs.Idle.{idle-not-zero}
-use Rattle.record.specs.Worker.{within}
+use Rattle.faults.proofs.Listed.{one-of-from, from-one-of, clears-from, tells-class}
 use Rattle.faults.specs.Faults.{unknownName, keyAbove, bucketBeyond, nodeBeyond, bitDisagrees, kindMisfit, errandMisfit, makingAstray, sizeMisfit, workerDamaged}
-use Rattle.faults.specs.Rows.{IsOneOf, KnownKind, UnknownName, KeyAbove, BucketBeyond, NodeBeyond, BitDisagrees, KindMisfit, ErrandMisfit, parents, OnPath, MakingAstray, SizeMisfit, WorkerDamaged}
+use Rattle.faults.specs.Rows.{KnownKind, UnknownName, KeyAbove, BucketBeyond, NodeBeyond, BitDisagrees, KindMisfit, ErrandMisfit, parents, OnPath, MakingAstray, SizeMisfit, WorkerDamaged}
 use Rattle.record.specs.declared.Worker.{Worker}
-
--- k numbers, one after another, from n on
-abbrev from : ℕ → ℕ → List ℕ
-from n zero = []
-from n (suc k) = n ∷ from (suc n) k
-
--- a number from n to below n + k is one of them
-one-of-from : (n k p : ℕ) → n ≤ p → p < n + k → IsOneOf p (from n k)
-one-of-from n zero p l u = absurd (omega arith)
-one-of-from n (suc k) p l u = at (one-of-from (suc n) k p) (eqb p n) refl
-  where
-    at : (suc n ≤ p → p < suc n + k → IsOneOf p (from (suc n) k)) → (t : Bool) → eqb p n ≡ t → IsOneOf p (n ∷ from (suc n) k)
-    at later true e = inl (eqb-true p n e)
-    at later false e = let f = eqb-false p n e in inr (later (omega arith) (omega arith))
-
--- and one of them is from n to below n + k
-from-one-of : (n k p : ℕ) → IsOneOf p (from n k) → (n ≤ p) × (p < n + k)
-from-one-of n zero p o = absurd o
-from-one-of n (suc k) p (inl e) = (omega arith, omega arith)
-from-one-of n (suc k) p (inr o) = let b = from-one-of (suc n) k p o in (omega arith, omega arith)
-
--- the places from `low` to `low + k`, named one by one
-tells-within : (low k p : ℕ) → Tells (within low (low + k) p) (IsOneOf p (from low (suc k)))
-tells-within low k p =
-    tells-as (λ b. one-of-from low (suc k) p (b .0) (omega arith)) (λ o. let b = from-one-of low (suc k) p o in (b .0, omega arith))
-    (tells-and (tells-le low p) (tells-le p (low + k)))
-
--- the last of a list
-tells-last : (p q : ℕ) → Tells (eqb p q) (IsOneOf p (q ∷ []))
-tells-last p q = tells-as inl (⊎-elim (λ e. e) (λ n. absurd n)) (tells-eq p q)
-
--- a number that is not above k is one of 0 to k
-clears-above : (k p : ℕ) → Clears (ltb k p) (IsOneOf p (from 0 (suc k)))
-clears-above k p =
-    clears-as (λ l. one-of-from 0 (suc k) p (omega arith) (omega arith)) (λ o. let b = from-one-of 0 (suc k) p o in omega arith)
-    (clears-lt k p)
 
 -- a kind not above 3 is known unless it is 0 on a record that is not idle
 known-kind : (x : Worker) → Clears (ltb DELETE (x .kind) || (eqb (x .kind) 0 && not (eqb (x .place) IDLE))) (KnownKind x)
@@ -83,8 +48,8 @@ unfolding unknownName
 unknown-name x =
     simp or-assoc
     (tells-or
-    (tells-broken (clears-above D6 (x .place)))
-    (tells-or (tells-broken (clears-above EXTRA (x .errand))) (tells-broken (known-kind x))))
+    (tells-broken (clears-from (length places) (x .place)))
+    (tells-or (tells-broken (clears-from (suc EXTRA) (x .errand))) (tells-broken (known-kind x))))
 
 -- "a key above the limit"
 pub key-above : (key : ℕ) → Tells (keyAbove key) (KeyAbove key)
@@ -126,8 +91,8 @@ pub kind-misfit : (x : Worker) → Tells (kindMisfit x) (KindMisfit x)
 unfolding kindMisfit
 kind-misfit x =
     tells-or
-    (tells-and (tells-or (tells-eq (x .place) I1) (tells-within I8 2 (x .place))) (tells-not (tells-eq (x .kind) INSERT)))
-    (tells-and (tells-within D4A 2 (x .place)) (tells-not (tells-eq (x .kind) DELETE)))
+    (tells-and (tells-class insertOnly refl refl (x .place)) (tells-not (tells-eq (x .kind) INSERT)))
+    (tells-and (tells-class deleteOnly refl refl (x .place)) (tells-not (tells-eq (x .kind) DELETE)))
 
 -- "L2 a dummy or an insert, the extra search a delete"
 pub errand-misfit : (x : Worker) → Tells (errandMisfit x) (ErrandMisfit x)
@@ -137,7 +102,7 @@ errand-misfit x =
     (tells-and (tells-eq (x .place) L2)
     (tells-not (tells-or (tells-eq (x .errand) DUMMY) (tells-and (tells-eq (x .errand) KEY) (tells-eq (x .kind) INSERT)))))
     (tells-and
-    (tells-and (tells-within F1 4 (x .place)) (tells-eq (x .errand) EXTRA))
+    (tells-and (tells-class searching refl refl (x .place)) (tells-eq (x .errand) EXTRA))
     (tells-not (tells-eq (x .kind) DELETE)))
 
 -- up the path: each parent on it is one more parent taken
@@ -153,16 +118,12 @@ path-complete (suc n) b a e = on-path-below b a (path-complete n (parentOf b) a 
 pub on-path : (b a : ℕ) → Tells (onPath b a) (OnPath b a)
 on-path b a = record { sound = path-sound b a; complete = λ p. path-complete (p .0) b a (p .1) }
 
--- "the bucket being made at B2, B4 or B8"
-making-at : (p : ℕ) → Tells (eqb p B2 || eqb p B4 || eqb p B8) (IsOneOf p (B2 ∷ B4 ∷ B8 ∷ []))
-making-at p = simp or-assoc (tells-or (tells-eq p B2) (tells-or (tells-eq p B4) (tells-last p B8)))
-
 -- "the bucket being made at B2, B4 or B8 isn't a non-zero one on the wanted bucket's path"
 pub making-astray : (x : Worker) → Tells (makingAstray x) (MakingAstray x)
 unfolding makingAstray
 making-astray x =
     tells-and
-    (making-at (x .place))
+    (tells-class bucketInMaking refl refl (x .place))
     (tells-broken (clears-or (clears-eq (x .making) 0) (clears-not (on-path (x .wanted) (x .making)))))
 
 -- "a size remembered for I9 or I10 isn't a power of two from 2 to M (for I10, below M)"
@@ -170,7 +131,7 @@ pub size-misfit : (h : Header) (x : Worker) → Tells (sizeMisfit h x) (SizeMisf
 unfolding sizeMisfit
 size-misfit h x =
     tells-and
-    (tells-within I9 1 (x .place))
+    (tells-class sizeRemembered refl refl (x .place))
     (tells-or
     (tells-not (power-up-to (h .m) (x .size)))
     (tells-and (tells-eq (x .place) I10) (tells-le (h .m) (x .size))))

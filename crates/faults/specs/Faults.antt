@@ -4,15 +4,16 @@ use mathlib.Core.Bool.{Bool, not, _&&_, _||_}
 use lib.Dec.{leb, ltb, eqb}
 use Rattle.tree.specs.Tree.{onPath, powerUpTo}
 use Rattle.sets.specs.Sets.{isIn}
-use Rattle.names.specs.Names.{IDLE, I1, B2, B4, F1, L2, B8, I8, I9, I10, D4A, D6, KEY, DUMMY, EXTRA, INSERT, DELETE, KEY-LIMIT}
+use Rattle.names.specs.Names.{IDLE, L2, I10, KEY, DUMMY, EXTRA, INSERT, DELETE, KEY-LIMIT}
+use Rattle.names.specs.Places.{noPlace, makes, needsInsert, needsDelete, remembersSize}
 use Rattle.header.specs.Header.{nodesOf}
 use Rattle.header.specs.declared.Header.{Header}
 use Rattle.record.specs.declared.Worker.{Worker}
-use Rattle.record.specs.Worker.{within}
+use Rattle.record.specs.Worker.{searchesFor}
 
 -- "the record has an unknown place, errand or kind": a busy record's kind is 1, 2 or 3
 unfoldable pub unknownName : Worker → Bool
-unknownName x = ltb D6 (x .place) || ltb EXTRA (x .errand) || ltb DELETE (x .kind) || (eqb (x .kind) 0 && not (eqb (x .place) IDLE))
+unknownName x = noPlace (x .place) || ltb EXTRA (x .errand) || ltb DELETE (x .kind) || (eqb (x .kind) 0 && not (eqb (x .place) IDLE))
 
 -- "a key above the limit"
 abbrev pub keyAbove : ℕ → Bool
@@ -36,21 +37,21 @@ idleNotZero x = eqb (x .place) IDLE && (ltb 0 (x .errand) || ltb 0 (x .kind) || 
 
 -- "I-steps need insert, D-steps delete"
 unfoldable pub kindMisfit : Worker → Bool
-kindMisfit x = ((eqb (x .place) I1 || within I8 I10 (x .place)) && not (eqb (x .kind) INSERT)) || (within D4A D6 (x .place) && not (eqb (x .kind) DELETE))
+kindMisfit x = (needsInsert (x .place) && not (eqb (x .kind) INSERT)) || (needsDelete (x .place) && not (eqb (x .kind) DELETE))
 
 -- "L2 a dummy or an insert, the extra search a delete"
 unfoldable pub errandMisfit : Worker → Bool
 errandMisfit x =
     (eqb (x .place) L2 && not (eqb (x .errand) DUMMY || (eqb (x .errand) KEY && eqb (x .kind) INSERT)))
-    || (within F1 L2 (x .place) && eqb (x .errand) EXTRA && not (eqb (x .kind) DELETE))
+    || (searchesFor EXTRA x && not (eqb (x .kind) DELETE))
 
 -- "the bucket being made at B2, B4 or B8 isn't a non-zero one on the wanted bucket's path"
 unfoldable pub makingAstray : Worker → Bool
-makingAstray x = (eqb (x .place) B2 || eqb (x .place) B4 || eqb (x .place) B8) && (eqb (x .making) 0 || not (onPath (x .wanted) (x .making)))
+makingAstray x = makes (x .place) && (eqb (x .making) 0 || not (onPath (x .wanted) (x .making)))
 
 -- "a size remembered for I9 or I10 isn't a power of two from 2 to M (for I10, below M)"
 unfoldable pub sizeMisfit : Header → Worker → Bool
-sizeMisfit h x = within I9 I10 (x .place) && (not (powerUpTo (h .m) (x .size)) || (eqb (x .place) I10 && leb (h .m) (x .size)))
+sizeMisfit h x = remembersSize (x .place) && (not (powerUpTo (h .m) (x .size)) || (eqb (x .place) I10 && leb (h .m) (x .size)))
 
 -- one of the four rows that speak of the place
 abbrev pub misfits : Header → Worker → Bool

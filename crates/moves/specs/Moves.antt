@@ -198,7 +198,7 @@ d4b s =
 unfoldable pub d6 : Seen → Move
 d6 s = Ended Yes (Count (countDown (s .header .count)))
 
--- ---- the place decides; a record that is not damaged is at one of these
+-- ---- the place decides; a busy record that is not damaged is at one of these
 unfoldable pub decidedAt : ℕ → Seen → Move
 decidedAt p s =
     pick (eqb p I1) (i1 s)
@@ -217,7 +217,8 @@ decidedAt p s =
     (pick (eqb p I10) (i10 s)
     (pick (eqb p D4A) (d4a s)
     (pick (eqb p D4B) (d4b s)
-    (d6 s))))))))))))))))
+    (pick (eqb p D6) (d6 s)
+    Damaged))))))))))))))))
 
 unfoldable pub decided : Seen → Move
 decided s = decidedAt (s .worker .place) s

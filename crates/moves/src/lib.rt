@@ -231,7 +231,7 @@ impl Seen {
         on(x.to(place::F1))
     }
 
-    // One step's decision, at the record's place.
+    // One step's decision, at the record's place; a record at none of these is damaged.
     pub fn decide(self) -> Move
         ensures { λ r. ⌜ r ≡ decided self ⌝ }
     {
@@ -253,7 +253,8 @@ impl Seen {
             place::I10 => self.i10(),
             place::D4A => self.d4a(),
             place::D4B => self.d4b(),
-            _ => self.d6(),
+            place::D6 => self.d6(),
+            _ => Move::Damaged,
         }
     }
 }

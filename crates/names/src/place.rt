@@ -1,4 +1,4 @@
-// The places of an operation, by the labels of the scope paper's steps.
+// The places of an operation, by the labels of the scope paper's steps. What each means is a row of specs/Places.antt.
 pub const IDLE: u32 = 0;
 
 pub const I1: u32 = 1;

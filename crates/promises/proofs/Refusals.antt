@@ -1,13 +1,13 @@
 -- The tests of a call stand in the order of its claims and each tells its own, so the first that holds gives the answer; of a step that passes them the place decides.
 -- Assumes nothing.
-use Prim.Native.Nat.{ℕ, _+_, _≤_}
+use Prim.Native.Nat.{ℕ, _+_, _≤_, _<_}
 use mathlib.Core.Bool.{Bool, true, false, true≢false, _||_}
 use mathlib.Core.List.{List, [], _∷_}
 use mathlib.Core.Logic.{inl, inr, ⊎-elim}
 use mathlib.Core.Path.{_≡_, refl, sym, ap, _∙_}
 use native.Mathlib.Decide.{ℕ-discrete}
 use native.Mathlib.Omega.{arith}
-use borrow.Author.Tests.{eqb-true, eqb-false, eq-eqb, ne-eqb}
+use borrow.Author.Tests.{eqb-true, eqb-false, eq-eqb, ne-eqb, ltb-false}
 use lib.Dec.{ltb, eqb}
 use Rattle.choice.specs.Choice.{pick}
 use Rattle.choice.specs.Table.{done, row}
@@ -17,7 +17,8 @@ use Rattle.words.specs.declared.Lengths.{Lengths}
 use Rattle.words.specs.Words.{Tables, lengths, SPLIT-KEY, word}
 use Rattle.scans.specs.Scans.{freeNode}
 use Rattle.scans.proofs.Laws.{free-node, free-none}
-use Rattle.names.specs.Names.{IDLE, I1, SZ, TB, B2, B4, F1, F2, F3, F4, L2, B8, I8, I9, I10, D4A, D4B, DUMMY, INSERT, FIND, DELETE, KEY-LIMIT, hasRow}
+use Rattle.names.specs.Names.{IDLE, I1, SZ, TB, B2, B4, F1, F2, F3, F4, L2, B8, I8, I9, I10, D4A, D4B, D6, DUMMY, INSERT, FIND, DELETE, KEY-LIMIT, hasRow}
+use Rattle.names.specs.Places.{noPlace}
 use Rattle.names.specs.declared.Answer.{Answer}
 use Rattle.names.specs.declared.Answer.the-variants.{Going as GoingOn, Damaged as IsDamaged, NoKeyNode, NoDummy}
 use Rattle.header.specs.declared.Header.{Header}
@@ -25,13 +26,14 @@ use Rattle.header.specs.Header.{nodesOf, dummiesOf}
 use Rattle.header.proofs.Rows.{limit-broken, header-damaged}
 use Rattle.record.specs.declared.Worker.{Worker}
 use Rattle.faults.specs.Rows.{IsOneOf, WorkerDamaged}
-use Rattle.faults.proofs.Rows.{worker-damaged}
+use Rattle.faults.specs.Faults.{unknownName}
+use Rattle.faults.proofs.Rows.{unknown-name, worker-damaged}
 use Rattle.moves.specs.declared.Seen.{Seen}
 use Rattle.acts.specs.declared.Effect.{Effect}
 use Rattle.acts.specs.declared.Effect.the-variants.{Nothing}
 use Rattle.acts.specs.declared.Move.{Move}
 use Rattle.acts.specs.declared.Move.the-variants.{Damaged, Going, Ended}
-use Rattle.moves.specs.Moves.{i1, sz, tb, b2, b4, f1, f2, f3, f4, l2, b8, i8, i9, i10, d4a, d4b, decidedAt, decided}
+use Rattle.moves.specs.Moves.{i1, sz, tb, b2, b4, f1, f2, f3, f4, l2, b8, i8, i9, i10, d4a, d4b, d6, decidedAt, decided}
 use Rattle.prepare.specs.declared.Limits.{Limits}
 use Rattle.register.specs.declared.Turn.{Turn}
 use Rattle.names.specs.declared.Verdict.{Verdict}
@@ -176,14 +178,14 @@ module _ (t : Turn) (ts : Tables) (known : Known (t .worker)) where
   seen q = record { header = t .header; worker = t .worker; word = wordAt q t ts; split = pick (eqb q F3) (word (ts .nodes) (t .worker .cur) SPLIT-KEY) 0 }
 
   by-place :
-      (p q : ℕ) (decides : Seen → Move) {n : Move} → Told t ts q (decides (seen q)) → ((p ≡ q → ⊥) → Told t ts p n)
+      (p q : ℕ) (decides : Seen → Move) {n : Move} → q ≤ p → Told t ts q (decides (seen q)) → (q < p → Told t ts p n)
       → Told t ts p (pick (eqb p q) (decides (seen p)) n)
   unfolding pick
-  by-place p q decides {n} now next = by (eqb p q) refl
+  by-place p q decides {n} l now next = by (eqb p q) refl
     where
       by : (b : Bool) → eqb p q ≡ b → Told t ts p (pick b (decides (seen p)) n)
       by true e = rw (eqb-true p q e) now
-      by false e = next (eqb-false p q e)
+      by false e = let ne = eqb-false p q e in next (omega arith)
 
   -- a place that takes no node
   ordinary : (q : ℕ) {m : Move} → eqb q I1 ≡ false → eqb q B4 ≡ false → Plain (claimAt q (placeClaims t ts)) m → Told t ts q m
@@ -240,29 +242,37 @@ module _ (t : Turn) (ts : Tables) (known : Known (t .worker)) where
       no-dummy _ _ _ _ (none-free (ts .nodes) 1 (dummiesOf (t .header)) (omega arith))
       (tells-and (tells-eq (t .worker .kind) INSERT) (tells-eq (t .worker .held) 0))
 
-  -- the place decides the answer: one row a place
-  told-at : (p : ℕ) → Told t ts p (decidedAt p (seen p))
+  -- the place decides the answer: one row a place, each above the one before, up to the last
+  told-at : (p : ℕ) → I1 ≤ p → p ≤ D6 → Told t ts p (decidedAt p (seen p))
   unfolding decidedAt wordAt wordGiven askedAt pick
-  told-at p =
-      by-place p I1 i1 takes-key
-      (λ n1. by-place p SZ sz (ordinary SZ refl refl (unclaimed (sz-fine _ _ _ _)))
-      (λ _. by-place p TB tb (ordinary TB refl refl (tb-plain _ _ _ _))
-      (λ n3. by-place p B2 b2 (ordinary B2 refl refl (b2-plain _ _ _ _))
-      (λ n4. by-place p B4 b4 takes-dummy
-      (λ n5. by-place p F1 f1 (ordinary F1 refl refl (f1-plain _ _ _ _))
-      (λ n6. by-place p F2 f2 (ordinary F2 refl refl (f2-plain _ _ _ _))
-      (λ n7. by-place p F3 f3 (ordinary F3 refl refl (f3-plain _ _ _ _ known))
-      (λ n8. by-place p F4 f4 (ordinary F4 refl refl (f4-plain _ _ _ _))
-      (λ n9. by-place p L2 l2 (ordinary L2 refl refl (l2-plain _ _ _ _))
-      (λ n10. by-place p B8 b8 (ordinary B8 refl refl (b8-plain _ _ _ _))
-      (λ n11. by-place p I8 i8 (ordinary I8 refl refl (unclaimed (i8-fine _ _ _ _)))
-      (λ _. by-place p I9 i9 (ordinary I9 refl refl (unclaimed (i9-fine _ _ _ _)))
-      (λ _. by-place p I10 i10 (ordinary I10 refl refl (unclaimed (i10-fine _ _ _ _)))
-      (λ _. by-place p D4A d4a (ordinary D4A refl refl (d4a-plain _ _ _ _))
-      (λ n15. by-place p D4B d4b (ordinary D4B refl refl (d4b-plain _ _ _ _))
-      (λ n16.
-      let unlisted : claimAt p (placeClaims t ts) → ⊥ = simp ne-eqb (λ c. c) in
-      ordinary p (ne-eqb p I1 n1) (ne-eqb p B4 n5) (sound unlisted (d6-fine _ _ _ _))))))))))))))))))
+  told-at p l last =
+      by-place p I1 i1 l takes-key
+      (λ l. by-place p SZ sz l (ordinary SZ refl refl (unclaimed (sz-fine _ _ _ _)))
+      (λ l. by-place p TB tb l (ordinary TB refl refl (tb-plain _ _ _ _))
+      (λ l. by-place p B2 b2 l (ordinary B2 refl refl (b2-plain _ _ _ _))
+      (λ l. by-place p B4 b4 l takes-dummy
+      (λ l. by-place p F1 f1 l (ordinary F1 refl refl (f1-plain _ _ _ _))
+      (λ l. by-place p F2 f2 l (ordinary F2 refl refl (f2-plain _ _ _ _))
+      (λ l. by-place p F3 f3 l (ordinary F3 refl refl (f3-plain _ _ _ _ known))
+      (λ l. by-place p F4 f4 l (ordinary F4 refl refl (f4-plain _ _ _ _))
+      (λ l. by-place p L2 l2 l (ordinary L2 refl refl (l2-plain _ _ _ _))
+      (λ l. by-place p B8 b8 l (ordinary B8 refl refl (b8-plain _ _ _ _))
+      (λ l. by-place p I8 i8 l (ordinary I8 refl refl (unclaimed (i8-fine _ _ _ _)))
+      (λ l. by-place p I9 i9 l (ordinary I9 refl refl (unclaimed (i9-fine _ _ _ _)))
+      (λ l. by-place p I10 i10 l (ordinary I10 refl refl (unclaimed (i10-fine _ _ _ _)))
+      (λ l. by-place p D4A d4a l (ordinary D4A refl refl (d4a-plain _ _ _ _))
+      (λ l. by-place p D4B d4b l (ordinary D4B refl refl (d4b-plain _ _ _ _))
+      (λ l. by-place p D6 d6 l (ordinary D6 refl refl (unclaimed (d6-fine _ _ _ _)))
+      (λ l. absurd (omega arith))))))))))))))))))
+
+-- a place that is named
+named-of : (t : Turn) → (WorkerDamaged (t .header) (t .number) (t .worker) → ⊥) → placeOf t ≤ D6
+unfolding unknownName
+named-of t whole = by (noPlace (placeOf t)) refl
+  where
+    by : (b : Bool) → noPlace (placeOf t) ≡ b → placeOf t ≤ D6
+    by true e = absurd (whole (inl (unknown-name (t .worker) .sound (rw e))))
+    by false e = ltb-false D6 (placeOf t) e
 
 -- an errand that is named
 known-of : (t : Turn) → (WorkerDamaged (t .header) (t .number) (t .worker) → ⊥) → Known (t .worker)
@@ -281,7 +291,7 @@ step-gives t ts =
     (λ _. gives-row answer (tells-le (t .header .w) (t .number)) refl
     (λ _. gives-row answer (worker-damaged (t .header) (t .number) (t .worker)) refl
     (λ whole. gives-row answer (tells-eq (placeOf t) IDLE) refl
-    (λ _. rw (← carried-answer t ts (decided (seenBy t ts))) at (told-at t ts (known-of t whole) (placeOf t) .given))))))
+    (λ busy. rw (← carried-answer t ts (decided (seenBy t ts))) at (told-at t ts (known-of t whole) (placeOf t) (omega arith) (named-of t whole) .given))))))
   where
     answer : Verdict → Answer
     answer v = steppedBy t ts v .out .called .answer

@@ -5,7 +5,7 @@ use mathlib.Core.Bool.{false, _||_}
 use mathlib.Core.Path.{_≡_, refl}
 use lib.Dec.{eqb}
 use Rattle.choice.proofs.Cases.{both, by-eq}
-use Rattle.names.specs.Names.{I1, SZ, TB, B2, B4, F1, F2, F3, F4, L2, B8, I8, I9, I10, D4A, D4B, DUMMY, EXTRA, INSERT, refuses}
+use Rattle.names.specs.Names.{I1, SZ, TB, B2, B4, F1, F2, F3, F4, L2, B8, I8, I9, I10, D4A, D4B, D6, DUMMY, EXTRA, INSERT, refuses}
 use Rattle.names.specs.declared.Answer.{Answer}
 use Rattle.record.specs.declared.Worker.{Worker}
 use Rattle.moves.specs.declared.Seen.{Seen}
@@ -112,4 +112,6 @@ module _ (t : Turn) (word split : ℕ) where
       (λ p. both Ok _ damaged (both Ok _ (going _ _ (A.d4a p, tt)) (going _ _ tt)))
       (λ _. by-eq Ok (placeOf t) D4B
       (λ p. both Ok _ damaged (both Ok _ (both Ok _ damaged (going _ _ (A.d4b-link p, (A.d4b-standing p, tt)))) (going _ _ tt)))
-      (λ _. ended _ _ tt refl))))))))))))))))
+      (λ _. by-eq Ok (placeOf t) D6
+      (λ _. ended _ _ tt refl)
+      (λ _. damaged)))))))))))))))))

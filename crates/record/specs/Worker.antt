@@ -3,7 +3,8 @@ use Prim.Native.Nat.{ℕ, _+_, _/_, _%_}
 use mathlib.Core.Bool.{Bool, false, not, _&&_}
 use lib.Dec.{leb, ltb, eqb}
 use Rattle.choice.specs.Choice.{pick}
-use Rattle.names.specs.Names.{IDLE, I1, SZ, F1, L2, B8, KEY, DUMMY, EXTRA, INSERT, CEILING}
+use Rattle.names.specs.Names.{IDLE, I1, SZ, KEY, DUMMY, EXTRA, INSERT, CEILING}
+use Rattle.names.specs.Places.{searches, holdsKey}
 use Rattle.record.specs.Fields.{withPrev, withCur, withNext, withMarked, withSteps}
 use Rattle.record.specs.declared.Worker.{Worker}
 use Rattle.record.specs.declared.Held.{Held}
@@ -35,17 +36,22 @@ tick steps = pick (ltb steps CEILING) (steps + 1) steps
 abbrev pub ticked : Worker → Worker
 ticked x = withSteps (tick (x .steps)) x
 
--- ---- what a record holds, over place, errand and kind alone
+-- ---- a number from low to high
 abbrev pub within : ℕ → ℕ → ℕ → Bool
 within low high p = leb low p && leb p high
 
+-- ---- what a record holds, over place, errand and kind alone
+-- the worker searches, on this errand
+abbrev pub searchesFor : ℕ → Worker → Bool
+searchesFor errand x = searches (x .place) && eqb (x .errand) errand
+
 -- an insert's key node, from SZ until it is on the chain
 unfoldable pub heldKey : Worker → ℕ
-heldKey x = pick (eqb (x .kind) INSERT && within SZ B8 (x .place) && not (within F1 L2 (x .place) && eqb (x .errand) EXTRA)) (x .held) 0
+heldKey x = pick (eqb (x .kind) INSERT && holdsKey (x .place) && not (searchesFor EXTRA x)) (x .held) 0
 
 -- the dummy node while it is searched for; at B8 it is on the chain
 unfoldable pub heldDummy : Worker → ℕ
-heldDummy x = pick (within F1 L2 (x .place) && eqb (x .errand) DUMMY) (x .dummy) 0
+heldDummy x = pick (searchesFor DUMMY x) (x .dummy) 0
 
 abbrev pub holds : Worker → Held
 holds x = record { key = heldKey x; dummy = heldDummy x }

@@ -1,6 +1,6 @@
 -- What takes effect in a step, named by the step's own write, what an answer says, and what is in effect and not yet counted.
 use Prim.Native.Nat.{ℕ, zero, suc, _+_, _≤_, _<_}
-use mathlib.Core.Bool.{Bool, true, _&&_, _||_}
+use mathlib.Core.Bool.{Bool, true, _||_}
 use mathlib.Core.List.{List}
 use mathlib.Core.Logic.{_⊎_, _≢_}
 use mathlib.Core.Path.{_≡_}
@@ -8,11 +8,12 @@ use lib.Dec.{eqb}
 use lib.ListN.{getD}
 use Rattle.choice.specs.Choice.{pick}
 use Rattle.words.specs.Words.{Tables, lengths}
-use Rattle.names.specs.Names.{F1, L2, I8, I9, D4B, D6, KEY, EXTRA, INSERT, FIND, DELETE}
+use Rattle.names.specs.Names.{KEY, EXTRA, INSERT, FIND, DELETE}
+use Rattle.names.specs.Places.{insertIn, deleteIn, inEffect}
 use Rattle.names.specs.declared.Answer.{Answer}
 use Rattle.names.specs.declared.Answer.the-variants.{Yes, No}
 use Rattle.record.specs.declared.Worker.{Worker}
-use Rattle.record.specs.Worker.{idle, within}
+use Rattle.record.specs.Worker.{idle, searchesFor}
 use Rattle.acts.specs.declared.Effect.{Effect}
 use Rattle.acts.specs.declared.Effect.the-variants.{Nothing, TakeKey, TakeDummy, Free, Aim, Place, Mark, Unlink, Store, Count, Size}
 use Rattle.acts.specs.declared.Move.{Move}
@@ -94,13 +95,17 @@ removes these (removed k) = pick (these k) 1 0
 abbrev pub all : ℕ → Bool
 all k = true
 
+-- the worker's operation has taken effect; a delete's one search more comes after its effect
+abbrev pub tookEffect : Worker → Bool
+tookEffect x = inEffect (x .place) || searchesFor EXTRA x
+
 -- 1 where the worker's insert is in effect and not yet counted, up to I9
 abbrev pub uncountedIn : Worker → ℕ
-uncountedIn x = pick (within I8 I9 (x .place)) 1 0
+uncountedIn x = pick (insertIn (x .place)) 1 0
 
 -- 1 where its delete is, up to D6; the extra search is between D4b and D6
 abbrev pub uncountedOut : Worker → ℕ
-uncountedOut x = pick (within D4B D6 (x .place) || (within F1 L2 (x .place) && eqb (x .errand) EXTRA)) 1 0
+uncountedOut x = pick (deleteIn (x .place) || searchesFor EXTRA x) 1 0
 
 -- the sum over the records of workers 0 to n - 1
 abbrev pub sumOf : (Worker → ℕ) → List Worker → ℕ → ℕ

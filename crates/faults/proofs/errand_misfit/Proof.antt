@@ -1,12 +1,15 @@
 -- The test that was passed says what is left of the row.
 -- Assumes nothing.
-use mathlib.Core.Path.{sym}
+use mathlib.Core.Path.{sym, _∙_}
+use Rattle.names.proofs.Places.{searches-within}
 use Rattle.faults.proofs.Laws.{errand-extra, errand-placing, errand-other}
 use Rattle.faults.proofs.errand_misfit.Statement.{statement}
 use Rattle.faults.proofs.errand_misfit.Tie as tie
 
 returns : tie.Need-returns
-returns c = sym (errand-extra (c .before .before .before .before .before .args .x) (c .before .before .if1 .taken))
+returns c =
+    let x = c .before .before .before .before .before .args .x in
+    sym (errand-extra x (c .before .before .if1 .taken) ∙ searches-within (x .place))
 
 returns-2 : tie.Need-returns-2
 returns-2 c = sym (errand-placing (c .before .before .before .before .before .before .before .before .args .x) (c .before .before .before .before .before .if1 .left) (c .before .before .before .if2 .taken))

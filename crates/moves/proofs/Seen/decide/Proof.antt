@@ -124,10 +124,15 @@ unfolding decidedAt pick
 returns-16 c = c .d4b .ensures ∙ here _ 16 (c .before .match .keys16)
 
 returns-17 : tie.Need-returns-17
+unfolding decidedAt pick
+returns-17 c = c .d6 .ensures ∙ here _ 17 (c .before .match .keys17)
+
+returns-18 : tie.Need-returns-18
 unfolding decided decidedAt pick
-returns-17 c =
-    let o = c .before .match .rest in
+returns-18 c =
+    let o = c .match .rest in
     rw (
+      ne-eqb _ _ (o .0 .0 .0 .0 .0 .0 .0 .0 .0 .0 .0 .0 .0 .0 .0 .0 .1),
       ne-eqb _ _ (o .0 .0 .0 .0 .0 .0 .0 .0 .0 .0 .0 .0 .0 .0 .0 .1),
       ne-eqb _ _ (o .0 .0 .0 .0 .0 .0 .0 .0 .0 .0 .0 .0 .0 .0 .1),
       ne-eqb _ _ (o .0 .0 .0 .0 .0 .0 .0 .0 .0 .0 .0 .0 .0 .1),
@@ -144,7 +149,7 @@ returns-17 c =
       ne-eqb _ _ (o .0 .0 .1),
       ne-eqb _ _ (o .0 .1),
       ne-eqb _ _ (o .1),
-    ) (c .d6 .ensures)
+    )
 
 pub decide-spec : {M : Type 1} → statement M
 decide-spec =
@@ -183,4 +188,5 @@ decide-spec =
     returns-14
     returns-15
     returns-16
-    returns-17)
+    returns-17
+    returns-18)
