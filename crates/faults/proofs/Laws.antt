@@ -13,7 +13,8 @@ use Rattle.names.proofs.Places.{apart, searches-within, size-within}
 use Rattle.header.specs.Header.{nodesOf}
 use Rattle.header.specs.declared.Header.{Header}
 use Rattle.record.specs.declared.Worker.{Worker}
-use Rattle.record.specs.Worker.{within, idle}
+use Rattle.choice.specs.Choice.{within}
+use Rattle.record.specs.Worker.{idle}
 use Rattle.faults.specs.Faults.{unknownName, keyAbove, bucketBeyond, nodeBeyond, bitDisagrees, idleNotZero, kindMisfit, errandMisfit, makingAstray, sizeMisfit, misfits, workerDamaged}
 use Rattle.faults.proofs.Idle.{is-idle}
 

@@ -9,6 +9,7 @@ use mathlib.Core.List.{List, [], _∷_}
 use lib.Dec.{leb, ltb, eqb}
 use lib.ListN.{length}
 use borrow.Author.Tests.{ne-eqb, lt-leb, ltb-true, leb-true, leb-false}
+use Rattle.choice.specs.Choice.{within}
 use Rattle.choice.proofs.Telling.{both-true}
 use Rattle.names.specs.Names.{I1, SZ, B2, B4, F1, L2, B8, I8, I9, I10, D4A, D4B, D6}
 use Rattle.names.specs.Places.{Class, searching, keyInHand, bucketInMaking, insertUncounted, deleteUncounted, effective, insertOnly, deleteOnly, sizeRemembered, PlaceRow, places, meansIn, meaning, among, searches, holdsKey, makes, insertIn, deleteIn, inEffect, needsInsert, needsDelete, remembersSize, PlacesInOrder}
@@ -26,7 +27,7 @@ pub data Test : Type 0 where
 abbrev pub tested : Test → ℕ → Bool
 tested never p = false
 tested (at q) p = eqb p q
-tested (between low high) p = leb low p && leb p high
+tested (between low high) p = within low high p
 tested (either s t) p = tested s p || tested t p
 
 -- what passes is below n
@@ -81,29 +82,29 @@ pub apart :
 apart c d rows p e = rw e at (by-rows (λ cs. among c cs && among d cs) never refl rows refl p)
 
 -- ---- each class is a test of the numbers
-pub searches-within : (p : ℕ) → searches p ≡ (leb F1 p && leb p L2)
+pub searches-within : (p : ℕ) → searches p ≡ within F1 L2 p
 searches-within = by-rows (among searching) (between F1 L2) refl refl refl
 
-pub holds-within : (p : ℕ) → holdsKey p ≡ (leb SZ p && leb p B8)
+pub holds-within : (p : ℕ) → holdsKey p ≡ within SZ B8 p
 holds-within = by-rows (among keyInHand) (between SZ B8) refl refl refl
 
 pub makes-at : (p : ℕ) → makes p ≡ (eqb p B2 || eqb p B4 || eqb p B8)
 makes-at = by-rows (among bucketInMaking) (either (either (at B2) (at B4)) (at B8)) refl refl refl
 
-pub insert-in-within : (p : ℕ) → insertIn p ≡ (leb I8 p && leb p I9)
+pub insert-in-within : (p : ℕ) → insertIn p ≡ within I8 I9 p
 insert-in-within = by-rows (among insertUncounted) (between I8 I9) refl refl refl
 
-pub delete-in-within : (p : ℕ) → deleteIn p ≡ (leb D4B p && leb p D6)
+pub delete-in-within : (p : ℕ) → deleteIn p ≡ within D4B D6 p
 delete-in-within = by-rows (among deleteUncounted) (between D4B D6) refl refl refl
 
-pub effect-within : (p : ℕ) → inEffect p ≡ ((leb I8 p && leb p I10) || (leb D4B p && leb p D6))
+pub effect-within : (p : ℕ) → inEffect p ≡ (within I8 I10 p || within D4B D6 p)
 effect-within = by-rows (among effective) (either (between I8 I10) (between D4B D6)) refl refl refl
 
-pub insert-steps : (p : ℕ) → needsInsert p ≡ (eqb p I1 || (leb I8 p && leb p I10))
+pub insert-steps : (p : ℕ) → needsInsert p ≡ (eqb p I1 || within I8 I10 p)
 insert-steps = by-rows (among insertOnly) (either (at I1) (between I8 I10)) refl refl refl
 
-pub delete-steps : (p : ℕ) → needsDelete p ≡ (leb D4A p && leb p D6)
+pub delete-steps : (p : ℕ) → needsDelete p ≡ within D4A D6 p
 delete-steps = by-rows (among deleteOnly) (between D4A D6) refl refl refl
 
-pub size-within : (p : ℕ) → remembersSize p ≡ (leb I9 p && leb p I10)
+pub size-within : (p : ℕ) → remembersSize p ≡ within I9 I10 p
 size-within = by-rows (among sizeRemembered) (between I9 I10) refl refl refl

@@ -7,8 +7,9 @@ use mathlib.Core.Logic.{inl, inr, ⊎-elim}
 use mathlib.Core.Path.{_≡_, refl, sym, ap, _∙_}
 use native.Mathlib.Decide.{ℕ-discrete}
 use native.Mathlib.Omega.{arith}
-use borrow.Author.Tests.{eqb-true, eqb-false, eq-eqb, ne-eqb, ltb-false}
+use borrow.Author.Tests.{eqb-true, eqb-false, eq-eqb, ne-eqb, leb-false}
 use lib.Dec.{ltb, eqb}
+use lib.ListN.{length}
 use Rattle.choice.specs.Choice.{pick}
 use Rattle.choice.specs.Table.{done, row}
 use Rattle.choice.proofs.Exactly.{Tells, fails, Gives, fine, here, later, refused-exactly, gives-row}
@@ -18,7 +19,7 @@ use Rattle.words.specs.Words.{Tables, lengths, SPLIT-KEY, word}
 use Rattle.scans.specs.Scans.{freeNode}
 use Rattle.scans.proofs.Laws.{free-node, free-none}
 use Rattle.names.specs.Names.{IDLE, I1, SZ, TB, B2, B4, F1, F2, F3, F4, L2, B8, I8, I9, I10, D4A, D4B, D6, DUMMY, INSERT, FIND, DELETE, KEY-LIMIT, hasRow}
-use Rattle.names.specs.Places.{noPlace}
+use Rattle.names.specs.Places.{places, noPlace}
 use Rattle.names.specs.declared.Answer.{Answer}
 use Rattle.names.specs.declared.Answer.the-variants.{Going as GoingOn, Damaged as IsDamaged, NoKeyNode, NoDummy}
 use Rattle.header.specs.declared.Header.{Header}
@@ -242,8 +243,8 @@ module _ (t : Turn) (ts : Tables) (known : Known (t .worker)) where
       no-dummy _ _ _ _ (none-free (ts .nodes) 1 (dummiesOf (t .header)) (omega arith))
       (tells-and (tells-eq (t .worker .kind) INSERT) (tells-eq (t .worker .held) 0))
 
-  -- the place decides the answer: one row a place, each above the one before, up to the last
-  told-at : (p : ℕ) → I1 ≤ p → p ≤ D6 → Told t ts p (decidedAt p (seen p))
+  -- the place decides the answer: one row a place, each above the one before; past the last no place is named
+  told-at : (p : ℕ) → I1 ≤ p → p < length places → Told t ts p (decidedAt p (seen p))
   unfolding decidedAt wordAt wordGiven askedAt pick
   told-at p l last =
       by-place p I1 i1 l takes-key
@@ -266,13 +267,13 @@ module _ (t : Turn) (ts : Tables) (known : Known (t .worker)) where
       (λ l. absurd (omega arith))))))))))))))))))
 
 -- a place that is named
-named-of : (t : Turn) → (WorkerDamaged (t .header) (t .number) (t .worker) → ⊥) → placeOf t ≤ D6
+named-of : (t : Turn) → (WorkerDamaged (t .header) (t .number) (t .worker) → ⊥) → placeOf t < length places
 unfolding unknownName
 named-of t whole = by (noPlace (placeOf t)) refl
   where
-    by : (b : Bool) → noPlace (placeOf t) ≡ b → placeOf t ≤ D6
+    by : (b : Bool) → noPlace (placeOf t) ≡ b → placeOf t < length places
     by true e = absurd (whole (inl (unknown-name (t .worker) .sound (rw e))))
-    by false e = ltb-false D6 (placeOf t) e
+    by false e = leb-false (length places) (placeOf t) e
 
 -- an errand that is named
 known-of : (t : Turn) → (WorkerDamaged (t .header) (t .number) (t .worker) → ⊥) → Known (t .worker)

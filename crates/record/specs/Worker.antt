@@ -36,10 +36,6 @@ tick steps = pick (ltb steps CEILING) (steps + 1) steps
 abbrev pub ticked : Worker → Worker
 ticked x = withSteps (tick (x .steps)) x
 
--- ---- a number from low to high
-abbrev pub within : ℕ → ℕ → ℕ → Bool
-within low high p = leb low p && leb p high
-
 -- ---- what a record holds, over place, errand and kind alone
 -- the worker searches, on this errand
 abbrev pub searchesFor : ℕ → Worker → Bool

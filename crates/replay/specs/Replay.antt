@@ -4,11 +4,10 @@ use mathlib.Core.Bool.{Bool}
 use mathlib.Core.List.{List, [], _++_}
 use lib.Dec.{ltb, leb, eqb}
 use lib.ListN.{length, replicate}
-use Rattle.choice.specs.Choice.{pick}
+use Rattle.choice.specs.Choice.{pick, within}
 use Rattle.names.specs.Names.{numberOf, goesOn}
 use Rattle.chain.specs.Chain.{keysFrom}
 use Rattle.header.specs.declared.Header.{Header}
-use Rattle.record.specs.Worker.{within}
 use Rattle.words.specs.Words.{Tables, tables, Left}
 use Rattle.crew.specs.Crew.{Crew}
 use Rattle.script.specs.declared.Entry.{Entry}

@@ -18,7 +18,7 @@ use Rattle.names.specs.declared.Answer.the-variants.{Going, Yes, No, Limit, Sho
 use Rattle.header.specs.Header.{nodesOf, dummiesOf}
 use Rattle.record.specs.declared.Worker.{Worker}
 use Rattle.register.specs.Registered.{key, Registered}
-use Rattle.register.specs.Events.{Event, nothing, added, removed, Says, yes-insert, yes-delete, yes-find, no-insert, no-find, no-delete}
+use Rattle.register.specs.Events.{Event, nothing, added, removed, Says, yes-insert, yes-delete, yes-find, no-insert, no-find, no-delete, tookEffect}
 use Rattle.story.specs.Shared.{Call, start, step, Shared, workerOf}
 use Rattle.story.specs.Story.{AnswersAreFromThePaper, Ends, Operation, Own, OfAnOperation, TrueAtAMoment, OwnEvent, OwnEffect}
 use Rattle.story.specs.Trace.{Trace, state, answerAt, eventAt, told}
@@ -26,7 +26,7 @@ use Rattle.story.proofs.Spans.{startsOf, began, owns, effects}
 use Rattle.story.proofs.Linked.{on-in}
 use Rattle.story.proofs.Facts.{Fact}
 use Rattle.story.proofs.Registers.{gap}
-use Rattle.story.proofs.Steps.{tookAt, Turned, ToldBy, Presently, Absently}
+use Rattle.story.proofs.Steps.{Turned, ToldBy, Presently, Absently}
 use Rattle.story.proofs.Calls.{Tale, refused, begins, goes, ends}
 use Rattle.story.proofs.Theorem.{Saw, Past, good, made-at, alive}
 use Rattle.story.proofs.Moments.{still, owns-mine, says-added, says-removed, says-some, says-effect, EventIn, Op, ops}
@@ -36,7 +36,7 @@ record End (r : Trace) (e w : ℕ) : Type 0 where
   real : w < state r e .header .w
   busy : workerOf (state r e) w .place ≢ IDLE
   none : eventAt r e ≡ nothing
-  told : ToldBy (state r e .nodes) (Past r e w) (workerOf (state r e) w) (tookAt (workerOf (state r e) w)) (answerAt r e)
+  told : ToldBy (state r e .nodes) (Past r e w) (workerOf (state r e) w) (tookEffect (workerOf (state r e) w)) (answerAt r e)
 
 ending : (r : Trace) (e w : ℕ) → r .call e ≡ step w → Ends (answerAt r e) → End r e w
 ending r e w ec d = by (made-at r e (good r e) .tale)
@@ -61,19 +61,19 @@ module _ (r : Trace) (e w : ℕ) (d : End r e w) where
   op = ops r e w (d .real) .busy (d .busy)
 
   -- a find has no event
-  find-quiet : x .kind ≡ FIND → tookAt x ≡ false
+  find-quiet : x .kind ≡ FIND → tookEffect x ≡ false
   find-quiet k = ⊎-elim (λ p. absurd (says-effect (p .2 .what) k)) (λ p. p .0) (op .flag)
 
   -- one that ended without a yes, but for a find, did not take effect
-  undone : (answerAt r e ≡ Yes → x .kind ≡ FIND) → tookAt x ≡ false
-  undone f = by (tookAt x) refl
+  undone : (answerAt r e ≡ Yes → x .kind ≡ FIND) → tookEffect x ≡ false
+  undone f = by (tookEffect x) refl
     where
-      by : (t : Bool) → tookAt x ≡ t → tookAt x ≡ false
+      by : (t : Bool) → tookEffect x ≡ t → tookEffect x ≡ false
       by true t = d .told .undone (λ y. true≢false (sym t ∙ find-quiet (f y)))
       by false t = t
 
   -- an operation that did not take effect had no event
-  none-of : tookAt x ≡ false → effects r w e ≡ 0
+  none-of : tookEffect x ≡ false → effects r w e ≡ 0
   none-of f = ⊎-elim (λ p. absurd (true≢false (sym (p .0) ∙ f))) (λ p. p .1) (op .flag)
 
 -- where an operation had no event, none of its calls has one
@@ -106,7 +106,7 @@ first-event r j w ec ne = by (made-at r j (good r j) .tale)
     by (refused ew en rf hc) = absurd (ne en)
     by (begins v kind k q l ew en ea hc xi) = absurd (ne en)
     by (goes v q l y ew ek ey nb tn ea ty) =
-        let z = turned (workerOf (state r j) v) (tookAt (workerOf (state r j) v)) (tookAt y) (eventAt r j) ne tn in
+        let z = turned (workerOf (state r j) v) (tookEffect (workerOf (state r j) v)) (tookEffect y) (eventAt r j) ne tn in
         let same : v ≡ w = cc in
         rw same at (⊎-elim (λ o. absurd (true≢false (sym (o .0) ∙ z))) (λ o. o .1) (ops r j v l .busy nb .flag))
     by (ends v q l ew en nb td ty) = absurd (ne en)
@@ -192,7 +192,7 @@ own-event r i ne = by (made-at r i (good r i) .tale)
     by (begins v kind k q l ew en ea hc xi) = absurd (ne en)
     by (goes v q l y ew ek ey nb tn ea ty) =
         let o = operation r i v l nb in
-        (v, workerOf (state r i) v .kind, workerOf (state r i) v .key, began r v i, o, (o .before, omega arith, q), mine (workerOf (state r i) v) (tookAt (workerOf (state r i) v)) (tookAt y) (eventAt r i) ne tn)
+        (v, workerOf (state r i) v .kind, workerOf (state r i) v .key, began r v i, o, (o .before, omega arith, q), mine (workerOf (state r i) v) (tookEffect (workerOf (state r i) v)) (tookEffect y) (eventAt r i) ne tn)
     by (ends v q l ew en nb td ty) = absurd (ne en)
 
 -- ---- an operation and its one effect
@@ -322,7 +322,7 @@ module _ (r : Trace) (w kind k b e : ℕ) (o : Operation (told r) w kind k b e) 
         where
           of-fact : Fact (state r e .header) w (good r e .chain) (state r e .nodes) (Past r e w) (workerOf (state r e) w) → (1 ≤ kind) × (kind ≤ DELETE)
           of-fact (inl q) = absurd (d .busy (rw q refl))
-          of-fact (inr q) = rw (eq .0) (q .sane .0, q .sane .1)
+          of-fact (inr q) = rw (eq .0) (q .sane .some, q .sane .kind)
 
       else : kind ≢ INSERT → (kind ≡ FIND) ⊎ (kind ≡ DELETE) → M
       else ni f = absent d none f n (rw (eq .1) (d .told .no-absent n (λ f. ni (eq .0 ∙ f))))

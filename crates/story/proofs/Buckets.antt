@@ -33,6 +33,7 @@ use Rattle.writes.specs.Writes.{taken}
 use Rattle.register.specs.Registered.{key, standing}
 use Rattle.story.proofs.Linked.{some-on}
 use Rattle.story.proofs.Registers.{unmoved}
+use Rattle.story.proofs.Sane.{errand-in, wanted-in, making-in, start-in, dummy-in}
 use Rattle.story.proofs.Facts as F
 use Rattle.story.proofs.Facts.{Nodes, forKey, forDummy}
 use Rattle.story.proofs.Stable as st
@@ -65,14 +66,14 @@ module _ {h : Header} {ws : List Worker} {Ps Qs : Pasts} {w : ℕ} {c m : List �
   pub sz-good : Stands z F.sz → F.At h w c m (Ps w) F.sz x → G (sz (seen h x 0 0))
   unfolding sz
   sz-good s b = looks z false F.sz s (s .dummy-hand) F.tb (to TB (withWanted (x .key % h .size) x)) refl
-      (s .sane .0, s .sane .1, s .sane .2, s .sane .3, fits, s .sane .5, s .sane .6, s .sane .7, s .sane .8, s .sane .9, s .sane .10, s .sane .11)
+      (wanted-in (s .sane) fits)
       (sym (s .hand)) refl refl refl (b, below) refl
     where
       fits : x .key % h .size < h .m
       fits = omega (arith, mod-lt (x .key) {m = h .size} (omega (arith, z .inv .size .0)), z .inv .size .1)
 
       below : dummy (x .key % h .size) < regular (x .key)
-      below = rw (z .inv .size .2 .2) (dummy-first (z .inv .size .2 .0) (x .key) (omega (arith, s .sane .3)))
+      below = rw (z .inv .size .2 .2) (dummy-first (z .inv .size .2 .0) (x .key) (omega (arith, s .sane .key)))
 
   -- a bucket word is 0 or its dummy
   in-range : (b : ℕ) → b < h .m → Dec (β b ≡ 0) → ltb N (β b) ≡ false
@@ -85,14 +86,14 @@ module _ {h : Header} {ws : List Worker} {Ps Qs : Pasts} {w : ℕ} {c m : List �
   -- TB
   pub tb-good : Stands z F.tb → F.At h w c m (Ps w) F.tb x → G (tb (seen h x (β (x .wanted)) 0))
   unfolding tb pick
-  tb-good s b = past G _ _ (in-range (x .wanted) (s .sane .4) (ℕ-discrete (β (x .wanted)) 0))
+  tb-good s b = past G _ _ (in-range (x .wanted) (s .sane .wanted) (ℕ-discrete (β (x .wanted)) 0))
       (by-eq G (β (x .wanted)) 0
       (λ e. looks z false F.tb s (s .dummy-hand) F.b2 (to B2 (withMaking (x .wanted) x)) refl
-      (s .sane .0, s .sane .1, s .sane .2, s .sane .3, s .sane .4, s .sane .4, s .sane .6, s .sane .7, s .sane .8, s .sane .9, s .sane .10, s .sane .11)
+      (making-in (s .sane) (s .sane .wanted))
       (sym (s .hand)) refl refl refl (b .0, record { below = b .1; some = not-first (x .wanted) e; path = on-path-self (x .wanted) }) refl)
-      (λ ne. let o = z .inv .root (x .wanted) (s .sane .4) ne in
+      (λ ne. let o = z .inv .root (x .wanted) (s .sane .wanted) ne in
       looks z false F.tb s (s .dummy-hand) F.f1 (to F1 (withStart (β (x .wanted)) (withErrand KEY x))) refl
-      (s .sane .0, s .sane .1, omega arith, s .sane .3, s .sane .4, s .sane .5, g₀ .fits (β (x .wanted)) (o .on), s .sane .7, s .sane .8, s .sane .9, s .sane .10, s .sane .11)
+      (start-in (errand-in (s .sane) (omega arith)) (g₀ .fits (β (x .wanted)) (o .on)))
       (sym (s .hand)) refl refl refl (forKey refl (b .0), record { on = o .on; sort = o .sort; low = rw (o .has) (b .1) }) refl))
 
   -- B2
@@ -101,21 +102,21 @@ module _ {h : Header} {ws : List Worker} {Ps Qs : Pasts} {w : ℕ} {c m : List �
   b2-good s b = past G _ _ (in-range up fits (ℕ-discrete (β up) 0))
       (by-eq G (β up) 0
       (λ e. looks z false F.b2 s (s .dummy-hand) F.b2 (withMaking up x) (s .place)
-      (s .sane .0, s .sane .1, s .sane .2, s .sane .3, s .sane .4, fits, s .sane .6, s .sane .7, s .sane .8, s .sane .9, s .sane .10, s .sane .11)
+      (making-in (s .sane) fits)
       (sym (s .hand)) refl refl refl (b .0, record { below = b .1 .below; some = not-first up e; path = on-path-up (x .wanted) (x .making) (b .1 .path) }) refl)
       (λ ne. let o = z .inv .root up fits ne in
       looks z false F.b2 s (s .dummy-hand) F.b4 (to B4 (withStart (β up) x)) refl
-      (s .sane .0, s .sane .1, s .sane .2, s .sane .3, s .sane .4, s .sane .5, g₀ .fits (β up) (o .on), s .sane .7, s .sane .8, s .sane .9, s .sane .10, s .sane .11)
+      (start-in (s .sane) (g₀ .fits (β up) (o .on)))
       (sym (s .hand)) refl refl refl (b .0, b .1, record { on = o .on; sort = o .sort; low = rw (o .has) first }) refl))
     where
       up : ℕ
       up = parentOf (x .making)
 
       fits : up < h .m
-      fits = omega (arith, parent-le (x .making), s .sane .5)
+      fits = omega (arith, parent-le (x .making), s .sane .making)
 
       first : dummy up < dummy (x .making)
-      first = parent-first (x .making) (omega (arith, b .1 .some)) (omega (arith, word-small (x .making) (s .sane .5)))
+      first = parent-first (x .making) (omega (arith, b .1 .some)) (omega (arith, word-small (x .making) (s .sane .making)))
 
   -- B4: some dummy node is free, and it is taken
   pub b4-good : Stands z F.b4 → F.At h w c m (Ps w) F.b4 x → G (b4 (seen h x (freeNode m 1 D) 0))
@@ -134,7 +135,7 @@ module _ {h : Header} {ws : List Worker} {Ps Qs : Pasts} {w : ℕ} {c m : List �
           rest = take-dummy (core z) n (dummy (x .making)) (f .2) (f .0) fits (s .dummy-hand) (f .1);
           spot = F.f1;
           place = refl;
-          sane = (s .sane .0, s .sane .1, omega arith, s .sane .3, s .sane .4, s .sane .5, s .sane .6, s .sane .7, s .sane .8, s .sane .9, s .sane .10, fits);
+          sane = dummy-in (errand-in (s .sane) (omega arith)) fits;
           key-same = sym (s .hand);
           dummy-same = refl;
           key-has = λ y. later .has D N (heldKey x) y (core z .key-held y) ∙ s .key-has y;
@@ -160,9 +161,9 @@ module _ {h : Header} {ws : List Worker} {Ps Qs : Pasts} {w : ℕ} {c m : List �
   pub b8-good : Stands z F.b8 → F.At h w c m (Ps w) F.b8 x → G (b8 (seen h x 0 0))
   unfolding b8
   b8-good s b = past G _ _ (ne-eqb (x .dummy) 0 some)
-      (by-eq G (x .making) (x .wanted) (λ e. stores F.tb TB (x .making) (s .sane .5) refl (sym (s .hand)) refl (b .0, b .1 .below) refl)
+      (by-eq G (x .making) (x .wanted) (λ e. stores F.tb TB (x .making) (s .sane .making) refl (sym (s .hand)) refl (b .0, b .1 .below) refl)
       (λ ne. let d = next-down-parent (x .wanted) (x .making) (b .1 .path) ne in
-      stores F.b2 B2 (nextDown (x .wanted) (x .making)) (omega (arith, on-path-le (x .wanted) (nextDown (x .wanted) (x .making)) (d .1), s .sane .4)) refl (sym (s .hand)) refl
+      stores F.b2 B2 (nextDown (x .wanted) (x .making)) (omega (arith, on-path-le (x .wanted) (nextDown (x .wanted) (x .making)) (d .1), s .sane .wanted)) refl (sym (s .hand)) refl
       (b .0, record { below = b .1 .below; some = omega (arith, d .2); path = d .1 }) refl))
     where
       some : x .dummy ≢ 0
@@ -175,10 +176,10 @@ module _ {h : Header} {ws : List Worker} {Ps Qs : Pasts} {w : ℕ} {c m : List �
         next = record {
           k = heldKey x;
           d = heldDummy x;
-          rest = stored (core z) (x .making) (x .dummy) (s .sane .5) some (b .2);
+          rest = stored (core z) (x .making) (x .dummy) (s .sane .making) some (b .2);
           spot = q;
           place = pl;
-          sane = (s .sane .0, s .sane .1, s .sane .2, s .sane .3, s .sane .4, l, s .sane .6, s .sane .7, s .sane .8, s .sane .9, s .sane .10, omega arith);
+          sane = dummy-in (making-in (s .sane) l) (omega arith);
           key-same = ek;
           dummy-same = ed ∙ sym (s .dummy-hand);
           key-has = s .key-has;

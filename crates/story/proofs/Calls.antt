@@ -40,7 +40,7 @@ use Rattle.crew.proofs.Laws.{sized}
 use Rattle.crew.specs.One.{turn}
 use Rattle.promises.proofs.Shape.{Final, effect-at}
 use Rattle.register.specs.Registered.{key, link}
-use Rattle.register.specs.Events.{Event, nothing, added, removed, written, taking}
+use Rattle.register.specs.Events.{Event, nothing, added, removed, written, taking, tookEffect}
 use Rattle.story.specs.Shared.{Call, start, step, Shared, workerOf}
 use Rattle.story.specs.Trace.{Quiet, Keeps, turnOf, seenAt, allThere, Done, doneBy, startDone, moveDone, stepDone, done, Called, Paused, Next, calls, pause}
 use Rattle.story.proofs.Registers.{Change, unmoved}
@@ -49,7 +49,7 @@ use Rattle.story.proofs.Stable as st
 use Rattle.story.proofs.Hands.{key-is, dummy-is}
 use Rattle.story.proofs.Core.{Pasts, recordOf, Agrees, grown, Inv, aside, back, not-idle}
 use Rattle.story.proofs.Ends.{by-laws, reread, starts}
-use Rattle.story.proofs.Steps.{took, tookAt, took-is, Turned, ToldBy, Ctx, me, Good, Stands, gone, seen}
+use Rattle.story.proofs.Steps.{took, took-is, Turned, ToldBy, Ctx, me, Good, Stands, gone, seen}
 use Rattle.story.proofs.Search.{f1-good, f2-good, f3-good, f4-good}
 use Rattle.story.proofs.Buckets.{sz-good, tb-good, b2-good, b4-good, b8-good}
 use Rattle.story.proofs.Operations.{i1-good, i8-good, i9-good, i10-good, l2-good, d4a-good, d4b-good, d6-good}
@@ -181,10 +181,10 @@ pub data Tale (s : Shared) (Ps : Pasts) (c : Call) (a : Answer) (s′ : Shared) 
   begins : (w kind k : ℕ) → c ≡ start w kind k → w < s .header .w → s′ .workers ≡ set (s .workers) w (begun kind k) → ev ≡ nothing → a ≡ GoingOn → s′ .header .count ≡ s .header .count → workerOf s w ≡ idle → Tale s Ps c a s′ ev
   goes :
       (w : ℕ) → c ≡ step w → w < s .header .w → (y : Worker) → s′ .workers ≡ set (s .workers) w y → y .kind ≡ workerOf s w .kind → y .key ≡ workerOf s w .key → workerOf s w .place ≢ IDLE
-      → Turned (workerOf s w) (tookAt (workerOf s w)) (tookAt y) ev → a ≡ GoingOn → Tally (s .header .count) (s′ .header .count) (workerOf s w) y ev → Tale s Ps c a s′ ev
+      → Turned (workerOf s w) (tookEffect (workerOf s w)) (tookEffect y) ev → a ≡ GoingOn → Tally (s .header .count) (s′ .header .count) (workerOf s w) y ev → Tale s Ps c a s′ ev
   ends :
       (w : ℕ) → c ≡ step w → w < s .header .w → s′ .workers ≡ set (s .workers) w idle → ev ≡ nothing → workerOf s w .place ≢ IDLE
-      → ToldBy (s .nodes) (Ps w) (workerOf s w) (tookAt (workerOf s w)) a → Tally (s .header .count) (s′ .header .count) (workerOf s w) idle ev → Tale s Ps c a s′ ev
+      → ToldBy (s .nodes) (Ps w) (workerOf s w) (tookEffect (workerOf s w)) a → Tally (s .header .count) (s′ .header .count) (workerOf s w) idle ev → Tale s Ps c a s′ ev
 
 -- what a call leaves
 pub record Made (s : Shared) (Ps Qs : Pasts) (c : Call) (a : Answer) (s′ : Shared) (ev : Event) : Type 0 where
@@ -340,7 +340,7 @@ module _ (s : Shared) (Ps Qs : Pasts) (c : List ℕ) (inv : InvOf s Ps c) where
               inv = reread (gone z (ticked y) (headerAfter e h) (g .chain) _ _ (rw (sized e h .2) lt) (rw (sized e h .3) (a .1)) (g .next)) (rw (sized e h .0) (by-laws (h .m) (storedBy e) (s .value) β′ k));
               change = g .change;
               tale = goes w refl lt (ticked y) refl (g .kind) (g .same-key) ne
-                  (turns (workerOf s w) (took (b .spot) (workerOf s w .errand)) (took (g .next .spot) (y .errand)) (tookAt (workerOf s w)) (tookAt (ticked y)) (written (workerOf s w) e)
+                  (turns (workerOf s w) (took (b .spot) (workerOf s w .errand)) (took (g .next .spot) (y .errand)) (tookEffect (workerOf s w)) (tookEffect (ticked y)) (written (workerOf s w) e)
                   (took-is (b .spot) (workerOf s w) (b .place)) (took-is (g .next .spot) (ticked y) (g .next .place)) (g .turned)) refl (ty .is);
               sound = λ q. let f : _≡_ {A = ℕ} 0 1 = cc in omega arith;
               long = λ q. let f : _≡_ {A = ℕ} 0 1 = cc in omega arith;

@@ -28,7 +28,8 @@ use Rattle.writes.specs.Writes.{Stores, none, into}
 use Rattle.register.specs.Registered.{key, link, standing}
 use Rattle.story.specs.Trace.{Quiet, Keeps}
 use Rattle.story.proofs.Memory
-use Rattle.story.proofs.Facts.{Root, Spot, i1, sz, tb, b2, b4, f1, f2, f3, f4, l2, b8, i8, i9, i10, d4a, d4b, d6, At, Sane, Busy, Fact}
+use Rattle.story.proofs.Sane.{Sane}
+use Rattle.story.proofs.Facts.{Root, Spot, i1, sz, tb, b2, b4, f1, f2, f3, f4, l2, b8, i8, i9, i10, d4a, d4b, d6, At, Busy, Fact}
 use Rattle.story.proofs.Stable.{Grows}
 use Rattle.story.proofs.Hands.{idle-key, idle-dummy}
 use Rattle.story.proofs.Core.{Pasts, recordOf, Core, Inv, shift, aside, back, not-idle}
@@ -311,7 +312,7 @@ module _ {h : Header} {ws : List Worker} {Ps : Pasts} {c m : List ℕ} {β : ℕ
         some = omega (arith, inv .limits .buckets .0)
 
         sane : (p : ℕ) → Sane h′ (fresh p kind k)
-        sane p = (omega arith, omega arith, omega arith, low, some, some, omega arith, omega arith, omega arith, omega arith, omega arith, omega arith)
+        sane p = record { some = omega arith; kind = omega arith; errand = omega arith; key = low; wanted = some; making = some; start = omega arith; prev = omega arith; cur = omega arith; next = omega arith; held = omega arith; dummy = omega arith }
 
   pub starts : (Qs : Pasts) → ((v : ℕ) → v ≢ w → Grows (Ps v) (Qs v)) → Inv h′ (set ws w (begun kind k)) Qs c m β
   starts Qs up = back opened lt (begun kind k) Qs up (inr b) (inr (λ e. not-idle (b .spot) (sym (b .place) ∙ e), raised-same w (h .busy) w32))

@@ -12,7 +12,7 @@ use Rattle.split.specs.Split.{regular, dummy}
 use Rattle.tree.specs.Tree.{onPath}
 use Rattle.words.specs.Words.{TAKEN}
 use Rattle.sets.specs.Sets.{bit}
-use Rattle.names.specs.Names.{I1, SZ, TB, B2, B4, F1, F2, F3, F4, L2, B8, I8, I9, I10, D4A, D4B, D6, KEY, DUMMY, EXTRA, INSERT, DELETE, KEY-LIMIT}
+use Rattle.names.specs.Names.{I1, SZ, TB, B2, B4, F1, F2, F3, F4, L2, B8, I8, I9, I10, D4A, D4B, D6, KEY, DUMMY, EXTRA, INSERT, DELETE}
 use Rattle.header.specs.declared.Header.{Header}
 use Rattle.header.specs.Header.{dummiesOf, nodesOf}
 use Rattle.header.specs.Rows.{PowerFromTo}
@@ -20,6 +20,7 @@ use Rattle.record.specs.declared.Worker.{Worker}
 use Rattle.record.specs.Worker.{idle}
 use Rattle.register.specs.Registered.{key, link, standing, mark}
 use Rattle.story.proofs.Linked.{Walk}
+use Rattle.story.proofs.Sane.{Sane}
 
 -- worker v is waited for at node n
 pub record Waits (N v : ℕ) (m : List ℕ) (n : ℕ) : Type 0 where
@@ -168,12 +169,6 @@ module _ (h : Header) (v : ℕ) (c m : List ℕ) (P : ℕ → ℕ → ℕ → Ty
   At d4a x = (x .kind ≡ DELETE) × (x .errand ≡ KEY) × Start D c m (x .start) (regular (x .key)) × Safe N v c m (x .prev) × Safe N v c m (x .cur) × (key m (x .cur) ≡ regular (x .key))
   At d4b x = (x .kind ≡ DELETE) × Start D c m (x .start) (regular (x .key)) × Safe N v c m (x .prev) × Safe N v c m (x .cur) × (link m (x .cur) ≡ x .next * 2 + 1)
   At d6 x = x .kind ≡ DELETE
-
--- every field of a busy record is in its range
-abbrev pub Sane : Header → Worker → Type 0
-Sane h x =
-    (1 ≤ x .kind) × (x .kind ≤ DELETE) × (x .errand ≤ EXTRA) × (x .key ≤ KEY-LIMIT) × (x .wanted < h .m) × (x .making < h .m)
-    × (x .start ≤ nodesOf h) × (x .prev ≤ nodesOf h) × (x .cur ≤ nodesOf h) × (x .next ≤ nodesOf h) × (x .held ≤ nodesOf h) × (x .dummy ≤ nodesOf h)
 
 -- the nodes in hand, by place
 abbrev pub inHand : Worker → ℕ

@@ -6,18 +6,19 @@ use mathlib.Core.List.{List}
 use Prim.Native.Nat.{ℕ}
 use lib.Dec.{eqb}
 use Rattle.choice.specs.Choice.{pick}
-use Rattle.names.specs.Names.{SZ, F1, L2, B8, DUMMY, EXTRA, INSERT}
+use Rattle.names.specs.Names.{DUMMY, EXTRA, INSERT}
+use Rattle.names.specs.Places.{holdsKey, searches}
 use Rattle.header.specs.declared.Header.{Header}
 use Rattle.record.specs.declared.Worker.{Worker}
-use Rattle.record.specs.Worker.{idle, within, heldKey, heldDummy}
+use Rattle.record.specs.Worker.{idle, heldKey, heldDummy}
 use Rattle.story.proofs.Facts.{Spot, i1, sz, tb, b2, b4, f1, f2, f3, f4, l2, b8, i8, i9, i10, d4a, d4b, d6, number, Aim, forKey, forDummy, forExtra, AimOf, At, inHand, keyOf, dummyOf, Busy}
 
 -- the two definitions over place, errand, kind and number
 abbrev kept : ℕ → ℕ → ℕ → ℕ → ℕ
-kept p e k n = pick (eqb k INSERT && within SZ B8 p && not (within F1 L2 p && eqb e EXTRA)) n 0
+kept p e k n = pick (eqb k INSERT && holdsKey p && not (searches p && eqb e EXTRA)) n 0
 
 abbrev making : ℕ → ℕ → ℕ → ℕ
-making p e n = pick (within F1 L2 p && eqb e DUMMY) n 0
+making p e n = pick (searches p && eqb e DUMMY) n 0
 
 key-by : (x : Worker) (p : ℕ) → x .place ≡ p → heldKey x ≡ kept p (x .errand) (x .kind) (x .held)
 unfolding heldKey
@@ -38,13 +39,13 @@ none true b n = refl
 none false b n = refl
 
 -- during a search, by what it is for
-searching : (p e k wanted making key held dummy-node : ℕ) → within SZ B8 p ≡ true → within F1 L2 p ≡ true → Aim e k key wanted making held dummy-node → kept p e k held ≡ pick (eqb k INSERT) held 0
+searching : (p e k wanted making key held dummy-node : ℕ) → holdsKey p ≡ true → searches p ≡ true → Aim e k key wanted making held dummy-node → kept p e k held ≡ pick (eqb k INSERT) held 0
 unfolding pick
 searching p e k wa ma key held dummy-node s f (forKey q _) = rw (s, f, q) (same (eqb k INSERT) held)
 searching p e k wa ma key held dummy-node s f (forDummy q _ _ _) = rw (s, f, q) (same (eqb k INSERT) held)
 searching p e k wa ma key held dummy-node s f (forExtra q r) = rw (s, f, q, r)
 
-aimed : (x : Worker) (p : ℕ) → x .place ≡ p → within SZ B8 p ≡ true → within F1 L2 p ≡ true → AimOf x → heldKey x ≡ inHand x
+aimed : (x : Worker) (p : ℕ) → x .place ≡ p → holdsKey p ≡ true → searches p ≡ true → AimOf x → heldKey x ≡ inHand x
 aimed x p e s f a = key-by x p e ∙ searching p (x .errand) (x .kind) (x .wanted) (x .making) (x .key) (x .held) (x .dummy) s f a
 
 module _ (h : Header) (v : ℕ) (c m : List ℕ) (P : ℕ → ℕ → ℕ → Type 0) (x : Worker) where

@@ -14,7 +14,7 @@ use Rattle.names.specs.Names.{IDLE, KEY-LIMIT}
 use Rattle.header.specs.Header.{nodesOf, dummiesOf}
 use Rattle.record.specs.declared.Worker.{Worker}
 use Rattle.register.specs.Registered.{key, Registered}
-use Rattle.register.specs.Events.{Event, nothing, added, removed, adds, removes, all}
+use Rattle.register.specs.Events.{Event, nothing, added, removed, adds, removes, all, tookEffect}
 use Rattle.story.specs.Shared.{workerOf}
 use Rattle.story.specs.Story.{tallied}
 use Rattle.story.specs.Trace.{Trace, state, answerAt, eventAt}
@@ -22,7 +22,7 @@ use Rattle.story.proofs.Registers.{Change}
 use Rattle.slots.proofs.Distinct.{without, Distinct, was-in, stays-in, still-distinct, gone, one-less, pigeonhole}
 use Rattle.story.proofs.Linked.{on-in, some-on}
 use Rattle.story.proofs.Facts.{Nodes, Fact}
-use Rattle.story.proofs.Steps.{tookAt, Turned}
+use Rattle.story.proofs.Steps.{Turned}
 use Rattle.story.proofs.Tally.{one}
 use Rattle.story.proofs.Calls.{Tale, refused, begins, goes, ends}
 use Rattle.story.proofs.Theorem.{Past, good, made-at, changes, none-yet}
@@ -78,7 +78,7 @@ limited r i = by (made-at r i (good r i) .tale)
       where
         of-fact : Fact (state r i .header) v (good r i .chain) (state r i .nodes) (Past r i v) (workerOf (state r i) v) → workerOf (state r i) v .key ≤ KEY-LIMIT
         of-fact (inl e) = absurd (nb (rw e refl))
-        of-fact (inr b) = b .sane .3
+        of-fact (inr b) = b .sane .key
 
     by-event : (x : Worker) (a b : Bool) (ev : Event) → Turned x a b ev → x .key ≤ KEY-LIMIT → Limited ev
     by-event x a b nothing t l = tt
@@ -88,7 +88,7 @@ limited r i = by (made-at r i (good r i) .tale)
     by : Tale (state r i) (Past r i) (r .call i) (answerAt r i) (state r (suc i)) (eventAt r i) → Limited (eventAt r i)
     by (refused ew en rf hc) = rw en tt
     by (begins v kind k q l ew en ea hc xi) = rw en tt
-    by (goes v q l y ew ek ey nb tn ea ty) = by-event (workerOf (state r i) v) (tookAt (workerOf (state r i) v)) (tookAt y) (eventAt r i) tn (low v l nb)
+    by (goes v q l y ew ek ey nb tn ea ty) = by-event (workerOf (state r i) v) (tookEffect (workerOf (state r i) v)) (tookEffect y) (eventAt r i) tn (low v l nb)
     by (ends v q l ew en nb td ty) = rw en tt
 
 -- the list after one event, over any tables and any sums

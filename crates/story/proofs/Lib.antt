@@ -1,5 +1,6 @@
 pub mod Memory
 pub mod Linked
+pub mod Sane
 pub mod Facts
 pub mod Stable
 pub mod Hands

@@ -20,11 +20,11 @@ use Rattle.names.specs.declared.Answer.the-variants.{Going, Yes}
 use Rattle.record.specs.declared.Worker.{Worker}
 use Rattle.record.specs.Worker.{idle, fresh, begun}
 use Rattle.register.specs.Registered.{key}
-use Rattle.register.specs.Events.{Event, nothing, added, removed, Says, yes-insert, yes-delete, yes-find}
+use Rattle.register.specs.Events.{Event, nothing, added, removed, Says, yes-insert, yes-delete, yes-find, tookEffect}
 use Rattle.story.specs.Shared.{Call, start, step, Shared, workerOf}
 use Rattle.story.specs.Trace.{First, Trace, state, answerAt, eventAt}
 use Rattle.story.proofs.Spans.{startsOf, began, owns, effects}
-use Rattle.story.proofs.Steps.{tookAt, Turned}
+use Rattle.story.proofs.Steps.{Turned}
 use Rattle.story.proofs.Calls.{Tale, refused, begins, goes, ends}
 use Rattle.story.proofs.Theorem.{Past, good, made-at, alive}
 
@@ -92,7 +92,7 @@ pub record EventIn (r : Trace) (i w kind k : ℕ) : Type 0 where
 pub record Op (r : Trace) (i w : ℕ) (x : Worker) : Type 0 where
   pub started : r .call (began r w i) ≡ start w (x .kind) (x .key)
   pub going : answerAt r (began r w i) ≡ Going
-  pub flag : ((tookAt x ≡ true) × (effects r w i ≡ 1) × EventIn r i w (x .kind) (x .key)) ⊎ ((tookAt x ≡ false) × (effects r w i ≡ 0))
+  pub flag : ((tookEffect x ≡ true) × (effects r w i ≡ 1) × EventIn r i w (x .kind) (x .key)) ⊎ ((tookEffect x ≡ false) × (effects r w i ≡ 0))
 
 pub record Ops (r : Trace) (i w : ℕ) (x : Worker) : Type 0 where
   pub few : effects r w i ≤ 1
@@ -110,9 +110,9 @@ same-op r i w x eb ee o = record {
   };
 }
 
-begun-took : (kind k : ℕ) → tookAt (begun kind k) ≡ false
+begun-took : (kind k : ℕ) → tookEffect (begun kind k) ≡ false
 unfolding begun
-begun-took kind k = both (λ (p : ℕ). tookAt (fresh p kind k) ≡ false) (eqb kind INSERT) refl refl
+begun-took kind k = both (λ (p : ℕ). tookEffect (fresh p kind k) ≡ false) (eqb kind INSERT) refl refl
 
 begun-kind : (kind k : ℕ) → (begun kind k .kind ≡ kind) × (begun kind k .key ≡ k)
 unfolding begun
@@ -155,7 +155,7 @@ module _ (r : Trace) (i w : ℕ) (o : Ops r i w (workerOf (state r i) w)) (lt : 
     p = o .busy nb
 
     -- it took effect in this call
-    now : Says (x .key) ⊥ (x .kind) Yes ev → tookAt x ≡ false → tookAt y ≡ true → Ops r (suc i) w y
+    now : Says (x .key) ⊥ (x .kind) Yes ev → tookEffect x ≡ false → tookEffect y ≡ true → Ops r (suc i) w y
     now what f t =
         let z : effects r w i ≡ 0 = ⊎-elim (λ q. absurd (true≢false (sym (q .0) ∙ f))) (λ q. q .1) (p .flag) in
         let one : effects r w (suc i) ≡ 1 = kept .1 ∙ omega (arith, mine, owns-one w ev (says-some what)) in
@@ -169,7 +169,7 @@ module _ (r : Trace) (i w : ℕ) (o : Ops r i w (workerOf (state r i) w)) (lt : 
         }
 
     -- it did not
-    quiet : ev ≡ nothing → tookAt y ≡ tookAt x → Ops r (suc i) w y
+    quiet : ev ≡ nothing → tookEffect y ≡ tookEffect x → Ops r (suc i) w y
     quiet e t =
         let ee : effects r w (suc i) ≡ effects r w i = kept .1 ∙ none-more (mine ∙ ap (owns w (step w)) e) in
         let q = same-op r i w x (kept .0) ee o in
@@ -182,12 +182,12 @@ module _ (r : Trace) (i w : ℕ) (o : Ops r i w (workerOf (state r i) w)) (lt : 
           };
         }
 
-    by-event : (e : Event) → ev ≡ e → Turned x (tookAt x) (tookAt y) e → Ops r (suc i) w y
+    by-event : (e : Event) → ev ≡ e → Turned x (tookEffect x) (tookEffect y) e → Ops r (suc i) w y
     by-event nothing e t = quiet e t
     by-event (added k) e t = now (says-added e (t .2) (t .3)) (t .0) (t .1)
     by-event (removed k) e t = now (says-removed e (t .2) (t .3)) (t .0) (t .1)
 
-    own-step : Turned x (tookAt x) (tookAt y) ev → Ops r (suc i) w (workerOf (state r (suc i)) w)
+    own-step : Turned x (tookEffect x) (tookEffect y) ev → Ops r (suc i) w (workerOf (state r (suc i)) w)
     own-step t = rw (here-is y ew) (by-event ev refl t)
 
   ops-suc : Tale s (Past r i) (r .call i) (answerAt r i) (state r (suc i)) ev → Ops r (suc i) w (workerOf (state r (suc i)) w)

@@ -34,6 +34,7 @@ use Rattle.register.specs.Registered.{key, link, standing}
 use Rattle.register.specs.Events.{Event, nothing, added}
 use Rattle.story.proofs.Linked.{putAfter, cutAfter, put-new}
 use Rattle.story.proofs.Memory.{key-of-link}
+use Rattle.story.proofs.Sane.{errand-in, held-in}
 use Rattle.story.proofs.Facts as F
 use Rattle.story.proofs.Facts.{Nodes, Held, Root, Way, forKey, forDummy, forExtra, AimOf, Later}
 use Rattle.story.proofs.Stable as st
@@ -123,7 +124,7 @@ module _ {h : Header} {ws : List Worker} {Ps Qs : Pasts} {w : ℕ} {c m : List �
           rest = A.take-key (core z) n (regular (x .key)) (f .2) some (f .1) (s .hand) (omega (arith, f .0));
           spot = F.sz;
           place = refl;
-          sane = (s .sane .0, s .sane .1, s .sane .2, s .sane .3, s .sane .4, s .sane .5, s .sane .6, s .sane .7, s .sane .8, s .sane .9, f .1, s .sane .11);
+          sane = held-in (s .sane) (f .1);
           key-same = some-hand (withHeld n x) b;
           dummy-same = sym (s .dummy-hand);
           key-has = λ y. A.take-key-is (core z) n (regular (x .key)) (f .2) some (f .1);
@@ -191,7 +192,7 @@ module _ {h : Header} {ws : List Worker} {Ps Qs : Pasts} {w : ℕ} {c m : List �
   d4a-good s b = past (Good z false) _ _ (sound-link h x (x .cur) (link m (x .cur)) 0 (safe-some D N c m g₀ w (x .cur) (b .4)) (g₀ .links (x .cur) (safe-fits D N c m g₀ w (x .cur) (b .4))))
       (by-bool (Good z false) (isTo (link m (x .cur)) (x .next)) (λ t. marks (isTo-true (link m (x .cur)) (x .next) t))
       (λ _. looks z false F.d4a s (s .dummy-hand) F.f1 (to F1 (withErrand KEY x)) refl
-      (s .sane .0, s .sane .1, omega arith, s .sane .3, s .sane .4, s .sane .5, s .sane .6, s .sane .7, s .sane .8, s .sane .9, s .sane .10, s .sane .11)
+      (errand-in (s .sane) (omega arith))
       (no-hand x ni ∙ sym (s .hand)) refl refl refl (forKey refl (λ k. absurd (ni k)), b .2) refl))
     where
       ni : x .kind ≢ INSERT
@@ -213,7 +214,7 @@ module _ {h : Header} {ws : List Worker} {Ps Qs : Pasts} {w : ℕ} {c m : List �
           dummy-has = λ y. absurd (y (s .dummy-hand));
           at = (b .0, st.start later (b .2), later .safe (x .prev) (b .3), later .safe (x .cur) (b .4), A.mark-link (core z) (x .cur) (x .next) i e sort);
         };
-        change = A.mark-removes (core z) (x .cur) (x .next) i e sort (x .key) (b .5) (s .sane .3);
+        change = A.mark-removes (core z) (x .cur) (x .next) i e sort (x .key) (b .5) (s .sane .key);
         kind = refl;
         same-key = refl;
         turned = (refl, refl, b .0, refl);
@@ -235,7 +236,7 @@ module _ {h : Header} {ws : List Worker} {Ps Qs : Pasts} {w : ℕ} {c m : List �
       (by-bool (Good z true) (isTo (link m (x .prev)) (x .cur))
       (λ t. past (Good z true) _ _ (ne-eqb (x .cur) 0 some) (cuts (isTo-true (link m (x .prev)) (x .cur) t)))
       (λ _. looks z true F.d4b s (s .dummy-hand) F.f1 (to F1 (withErrand EXTRA x)) refl
-      (s .sane .0, s .sane .1, omega arith, s .sane .3, s .sane .4, s .sane .5, s .sane .6, s .sane .7, s .sane .8, s .sane .9, s .sane .10, s .sane .11)
+      (errand-in (s .sane) (omega arith))
       (no-hand x ni ∙ sym (s .hand)) refl refl refl (forExtra refl (b .0), b .1) refl))
     where
       ni : x .kind ≢ INSERT
@@ -295,7 +296,7 @@ module _ {h : Header} {ws : List Worker} {Ps Qs : Pasts} {w : ℕ} {c m : List �
         next = record {
           k = heldKey x;
           d = heldDummy x;
-          rest = A.aim (core z) n (x .cur) lo hi hh bound (s .sane .8) touch;
+          rest = A.aim (core z) n (x .cur) lo hi hh bound (s .sane .cur) touch;
           spot = F.f1;
           place = refl;
           sane = s .sane;
@@ -303,9 +304,9 @@ module _ {h : Header} {ws : List Worker} {Ps Qs : Pasts} {w : ℕ} {c m : List �
           dummy-same = sym (s .dummy-hand);
           key-has = λ y. key-of-link m n (linkTo (x .cur) false) (heldKey x) ∙ s .key-has y;
           dummy-has = λ y. key-of-link m n (linkTo (x .cur) false) (heldDummy x) ∙ s .dummy-has y;
-          at = (b .0 .0 .0, st.start (A.aim-later (core z) n (x .cur) lo hi hh bound (s .sane .8) w) (b .0 .0 .1));
+          at = (b .0 .0 .0, st.start (A.aim-later (core z) n (x .cur) lo hi hh bound (s .sane .cur) w) (b .0 .0 .1));
         };
-        change = A.aim-same (core z) n (x .cur) lo hi hh bound (s .sane .8);
+        change = A.aim-same (core z) n (x .cur) lo hi hh bound (s .sane .cur);
         kind = refl;
         same-key = refl;
         turned = refl;
@@ -343,7 +344,7 @@ module _ {h : Header} {ws : List Worker} {Ps Qs : Pasts} {w : ℕ} {c m : List �
         most = want-dummy (x .errand) (x .making) (x .key) q
 
         is-even : dummy (x .making) % 2 ≡ 0
-        is-even = dummy-is-even (x .making) (omega (arith, s .sane .5, z .inv .limits .buckets .1))
+        is-even = dummy-is-even (x .making) (omega (arith, s .sane .making, z .inv .limits .buckets .1))
 
         done : link m (x .prev) ≡ x .cur * 2 → Good z (took F.l2 (x .errand)) (Going (to B8 x) (Place n (x .cur) (x .prev)))
         done e = subst (λ (v : Event). Went z (took F.l2 (x .errand)) (to B8 x) h p β v) (sym (pick-false (eqb (x .errand) KEY) (added (x .key)) nothing (ne-eqb (x .errand) KEY (λ r. omega arith)))) went
@@ -361,7 +362,7 @@ module _ {h : Header} {ws : List Worker} {Ps Qs : Pasts} {w : ℕ} {c m : List �
             p = put (put m n LINK (linkTo (x .cur) false)) (x .prev) LINK (linkTo n false)
 
             pk : (j : ℕ) → key p j ≡ key m j
-            pk = A.place-key-is (core z) n (x .cur) 0 D hh (omega arith) (s .sane .8) (x .prev) (dummy (x .making)) i e (s .dummy-has some) low high (λ _. record { bucket = x .making; real = s .sane .5; has = refl }) (λ l. absurd (omega (arith, hh .high)))
+            pk = A.place-key-is (core z) n (x .cur) 0 D hh (omega arith) (s .sane .cur) (x .prev) (dummy (x .making)) i e (s .dummy-has some) low high (λ _. record { bucket = x .making; real = s .sane .making; has = refl }) (λ l. absurd (omega (arith, hh .high)))
 
             went : Went z (took F.l2 (x .errand)) (to B8 x) h p β nothing
             went = record {
@@ -369,7 +370,7 @@ module _ {h : Header} {ws : List Worker} {Ps Qs : Pasts} {w : ℕ} {c m : List �
               next = record {
                 k = heldKey x;
                 d = 0;
-                rest = A.place-dummy (core z) n (x .cur) 0 D hh (omega arith) (s .sane .8) (x .prev) (dummy (x .making)) i e (s .dummy-has some) low high (λ _. record { bucket = x .making; real = s .sane .5; has = refl }) (λ l. absurd (omega (arith, hh .high))) refl some;
+                rest = A.place-dummy (core z) n (x .cur) 0 D hh (omega arith) (s .sane .cur) (x .prev) (dummy (x .making)) i e (s .dummy-has some) low high (λ _. record { bucket = x .making; real = s .sane .making; has = refl }) (λ l. absurd (omega (arith, hh .high))) refl some;
                 spot = F.b8;
                 place = refl;
                 sane = s .sane;
@@ -379,7 +380,7 @@ module _ {h : Header} {ws : List Worker} {Ps Qs : Pasts} {w : ℕ} {c m : List �
                 dummy-has = λ y. absurd (y refl);
                 at = (a .0, a .1, subst (λ (v : ℕ). Root D (putAfter i n) p (x .making) v) is (record { on = put-new i n; sort = hh .high; has = pk n ∙ s .dummy-has some }));
               };
-              change = λ j. A.place-same (core z) n (x .cur) 0 D hh (omega arith) (s .sane .8) (x .prev) (dummy (x .making)) i e (s .dummy-has some) low high (λ _. record { bucket = x .making; real = s .sane .5; has = refl }) (λ l. absurd (omega (arith, hh .high)))
+              change = λ j. A.place-same (core z) n (x .cur) 0 D hh (omega arith) (s .sane .cur) (x .prev) (dummy (x .making)) i e (s .dummy-has some) low high (λ _. record { bucket = x .making; real = s .sane .making; has = refl }) (λ l. absurd (omega (arith, hh .high)))
                   j (λ r. omega (arith, regular-odd-all j, is-even));
               kind = refl;
               same-key = refl;
@@ -433,18 +434,18 @@ module _ {h : Header} {ws : List Worker} {Ps Qs : Pasts} {w : ℕ} {c m : List �
               next = record {
                 k = 0;
                 d = heldDummy x;
-                rest = A.place-key (core z) n (x .cur) D N hh (omega arith) (s .sane .8) (x .prev) (regular (x .key)) i e (s .key-has some) low high (λ l. absurd (omega (arith, hh .low))) (λ _. regular-odd-all (x .key)) refl some;
+                rest = A.place-key (core z) n (x .cur) D N hh (omega arith) (s .sane .cur) (x .prev) (regular (x .key)) i e (s .key-has some) low high (λ l. absurd (omega (arith, hh .low))) (λ _. regular-odd-all (x .key)) refl some;
                 spot = F.i8;
                 place = refl;
-                sane = (s .sane .0, s .sane .1, s .sane .2, s .sane .3, s .sane .4, s .sane .5, s .sane .6, s .sane .7, s .sane .8, s .sane .9, omega arith, s .sane .11);
+                sane = held-in (s .sane) (omega arith);
                 key-same = refl;
                 dummy-same = sym (s .dummy-hand ∙ no-sought x nd);
                 key-has = λ y. absurd (y refl);
                 dummy-has = λ y. absurd (y (s .dummy-hand ∙ no-sought x nd));
                 at = kd;
               };
-              change = A.place-adds (core z) n (x .cur) D N hh (omega arith) (s .sane .8) (x .prev) (regular (x .key)) i e (s .key-has some) low high (λ l. absurd (omega (arith, hh .low))) (λ _. regular-odd-all (x .key))
-                  (x .key) refl (s .sane .3);
+              change = A.place-adds (core z) n (x .cur) D N hh (omega arith) (s .sane .cur) (x .prev) (regular (x .key)) i e (s .key-has some) low high (λ l. absurd (omega (arith, hh .low))) (λ _. regular-odd-all (x .key))
+                  (x .key) refl (s .sane .key);
               kind = refl;
               same-key = refl;
               turned = (ne-eqb (x .errand) EXTRA (λ r. omega arith), refl, kd, refl);

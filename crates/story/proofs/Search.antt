@@ -30,8 +30,9 @@ use Rattle.register.specs.Registered.{key, link, nextIn, mark}
 use Rattle.register.specs.Events.{nothing}
 use Rattle.story.proofs.Memory.{key-of-standing}
 use Rattle.story.proofs.Linked.{cutAfter, succ-in}
+use Rattle.story.proofs.Sane.{Sane, prev-in, cur-in, next-in, dummy-in}
 use Rattle.story.proofs.Facts as F
-use Rattle.story.proofs.Facts.{Safe, Held, Nodes, forKey, forDummy, forExtra, AimOf, Start, Beyond, Root, Sane, Searches, Passes, wantBy, inHand, sought, Later}
+use Rattle.story.proofs.Facts.{Safe, Held, Nodes, forKey, forDummy, forExtra, AimOf, Start, Beyond, Root, Searches, Passes, wantBy, inHand, sought, Later}
 use Rattle.story.proofs.Stable as st
 use Rattle.story.proofs.Core.{Pasts, Core}
 use Rattle.story.proofs.Effects.{same, live-on, safe-fits, safe-some, next-fits}
@@ -61,7 +62,7 @@ some-sought x e = by-eq (λ (v : ℕ). v ≡ x .dummy) (x .errand) DUMMY (λ _. 
 
 -- fields that come in range
 pub sane-at : (h : Header) (x : Worker) (prev cur : ℕ) → Sane h x → prev ≤ nodesOf h → cur ≤ nodesOf h → Sane h (withCur cur (withPrev prev x))
-sane-at h x prev cur s a b = (s .0, s .1, s .2, s .3, s .4, s .5, s .6, a, b, s .9, s .10, s .11)
+sane-at h x prev cur s a b = cur-in (prev-in s a) b
 
 or-right : (a b : Bool) → a ≡ false → a || b ≡ true → b ≡ true
 or-right a b e q = rw e at q
@@ -216,7 +217,7 @@ module _ {h : Header} {ws : List Worker} {Ps Qs : Pasts} {w : ℕ} {c m : List �
           rest = core z;
           spot = F.f3;
           place = refl;
-          sane = (l .sane .0, l .sane .1, l .sane .2, l .sane .3, l .sane .4, l .sane .5, l .sane .6, l .sane .7, l .sane .8, next-fits D N c m g₀ (x .cur) fits, l .sane .10, l .sane .11);
+          sane = next-in (l .sane) (next-fits D N c m g₀ (x .cur) fits);
           key-same = sym hand;
           dummy-same = sym dummy-hand;
           key-has = l .key-has;
@@ -287,7 +288,7 @@ module _ {h : Header} {ws : List Worker} {Ps Qs : Pasts} {w : ℕ} {c m : List �
             (λ nk. by-eq G (x .kind) FIND
             (λ k. over z tk Yes c m (core z) unmoved (told Yes q (λ u. k) (λ u. let f : _≡_ {A = ℕ} 0 1 = cc in absurd (omega arith)) (omega arith)))
             (λ nf. looks z tk p₀ l (dummy-hand ∙ no-sought x (λ r. omega arith)) F.d4a (to D4A x) refl (l .sane) (sym (hand ∙ no-hand x nk)) refl refl refl
-            (omega (arith, l .sane .0, l .sane .1), q, low, b .0 .1 .safe, b .1, has ∙ want-key (x .errand) (x .making) (x .key) (λ r. omega arith)) (sym (ne-eqb (x .errand) EXTRA (λ r. omega arith)))
+            (omega (arith, l .sane .some, l .sane .kind), q, low, b .0 .1 .safe, b .1, has ∙ want-key (x .errand) (x .making) (x .key) (λ r. omega arith)) (sym (ne-eqb (x .errand) EXTRA (λ r. omega arith)))
             ))))
           where
             low : Start D c m (x .start) (regular (x .key))
@@ -303,7 +304,7 @@ module _ {h : Header} {ws : List Worker} {Ps Qs : Pasts} {w : ℕ} {c m : List �
                 rest = rw d-is at (free-dummy (core z));
                 spot = F.b8;
                 place = refl;
-                sane = (l .sane .0, l .sane .1, l .sane .2, l .sane .3, l .sane .4, l .sane .5, l .sane .6, l .sane .7, l .sane .8, l .sane .9, l .sane .10, l .sane .8);
+                sane = dummy-in (l .sane) (l .sane .cur);
                 key-same = sym hand;
                 dummy-same = refl;
                 key-has = λ y. key-of-standing m (x .dummy) 0 (heldKey x) ∙ l .key-has y;
@@ -328,20 +329,20 @@ module _ {h : Header} {ws : List Worker} {Ps Qs : Pasts} {w : ℕ} {c m : List �
             root : Root D c (put m (x .dummy) STANDING 0) (x .making) (x .cur)
             root = record {
               on = cur-on;
-              sort = even-sort D N c m g₀ (x .cur) cur-on (rw split (dummy-is-even (x .making) (omega (arith, l .sane .5, z .inv .limits .buckets .1))));
+              sort = even-sort D N c m g₀ (x .cur) cur-on (rw split (dummy-is-even (x .making) (omega (arith, l .sane .making, z .inv .limits .buckets .1))));
               has = key-of-standing m (x .dummy) 0 (x .cur) ∙ split;
             }
 
     is-judged : Good z tk (judged (seen h x (link m (x .prev)) (key m (x .cur))))
     unfolding judged
     is-judged = by-bool (Good z tk) (x .marked)
-        (λ t. onward Nothing c m still (x .prev) (x .cur) (l .sane .7) (l .sane .8) passes F.f4 F4 refl (sym hand) (sym dummy-hand) (passes, b .1, b .2 .dead t) refl refl refl)
+        (λ t. onward Nothing c m still (x .prev) (x .cur) (l .sane .prev) (l .sane .cur) passes F.f4 F4 refl (sym hand) (sym dummy-hand) (passes, b .1, b .2 .dead t) refl refl refl)
         (λ t. past (Good z tk) _ _ (ne-eqb (x .cur) 0 some) (rw (want-is x)
         (by-lt (Good z tk) (key m (x .cur)) (wantBy x)
-        (λ lt. arrives Nothing c m still (x .cur) (x .next) (l .sane .8) (l .sane .9) (b .0 .0, record { safe = b .1; low = lt }) (b .2 .live t)
+        (λ lt. arrives Nothing c m still (x .cur) (x .next) (l .sane .cur) (l .sane .next) (b .0 .0, record { safe = b .1; low = lt }) (b .2 .live t)
         (λ q e. inr (x .cur, key m (x .cur), rw q at (b .2 .was t), rw (← e) lt)))
         (λ ge. by-eq (Good z tk) (key m (x .cur)) (wantBy x) (λ q. is-found q t)
-        (λ nq. not-found Nothing c m still (x .prev) (x .cur) (l .sane .7) (l .sane .8) passes (record { safe = λ _. b .1; high = λ _. omega (arith, ge, nq) })
+        (λ nq. not-found Nothing c m still (x .prev) (x .cur) (l .sane .prev) (l .sane .cur) passes (record { safe = λ _. b .1; high = λ _. omega (arith, ge, nq) })
         (λ q. inl (gap D N c m g₀ (x .prev) (x .key) prev-on (rw q at (b .0 .1 .low)) (λ _. rw (np, ← q) (omega (arith, ge, nq))))))))))
       where
         passes : Passes h w c m (Qs w) x
@@ -367,7 +368,7 @@ module _ {h : Header} {ws : List Worker} {Ps Qs : Pasts} {w : ℕ} {c m : List �
       (λ _. again (b .0 .0)))
     where
       cuts : link m (x .prev) ≡ x .cur * 2 → Good z tk (comes x (x .prev) (x .next) (Unlink (x .prev) (x .next) (x .cur) (h .busy)))
-      cuts e = arrives (Unlink (x .prev) (x .next) (x .cur) (h .busy)) (cutAfter i) m′ o (x .prev) (x .next) (l .sane .7) (l .sane .9)
+      cuts e = arrives (Unlink (x .prev) (x .next) (x .cur) (h .busy)) (cutAfter i) m′ o (x .prev) (x .next) (l .sane .prev) (l .sane .next)
           ((b .0 .0 .0, st.start later (b .0 .0 .1)), st.prev later (b .0 .1))
           (λ ne. inl (rw (on′ .1) at (succ-in m′ (x .prev) 0 1 (on′ .0) (core′ .of-nodes .walk) (rw (on′ .1) ne))))
           (λ q k. inl (λ r. gap D N (cutAfter i) m′ (core′ .of-nodes) (x .prev) (x .key) (on′ .0) (rw k at (st.prev later (b .0 .1) .low)) (λ ne. absurd (ne (on′ .1 ∙ q)))

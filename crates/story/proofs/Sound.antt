@@ -22,7 +22,8 @@ use Rattle.record.specs.declared.Worker.{Worker}
 use Rattle.record.specs.Worker.{idle}
 use Rattle.faults.specs.Faults.{unknownName, bucketBeyond, nodeBeyond, bitDisagrees, idleNotZero, kindMisfit, errandMisfit, makingAstray, sizeMisfit, workerDamaged}
 use Rattle.header.specs.Header.{isShort}
-use Rattle.story.proofs.Facts.{Sane, Spot, i1, sz, tb, b2, b4, f1, f2, f3, f4, l2, b8, i8, i9, i10, d4a, d4b, d6, number, forKey, forDummy, forExtra, AimOf, At, Busy, Fact}
+use Rattle.story.proofs.Sane.{Sane}
+use Rattle.story.proofs.Facts.{Spot, i1, sz, tb, b2, b4, f1, f2, f3, f4, l2, b8, i8, i9, i10, d4a, d4b, d6, number, forKey, forDummy, forExtra, AimOf, At, Busy, Fact}
 use Rattle.story.proofs.Core.{Pasts, Agrees, Core, not-idle}
 
 -- a test whose claim fails is false
@@ -111,17 +112,17 @@ module _ (h : Header) (v : ℕ) (c m : List ℕ) (P : ℕ → ℕ → ℕ → Ty
 
   known : Sane h x → (p : Spot) → x .place ≡ number p → unknownName x ≡ false
   unfolding unknownName
-  known s p e = rw (le-ltb D6 (x .place) (omega (arith, place-le p)), le-ltb EXTRA (x .errand) (s .2), le-ltb DELETE (x .kind) (s .1), ne-eqb (x .kind) 0 (omega (arith, s .0)))
+  known s p e = rw (le-ltb D6 (x .place) (omega (arith, place-le p)), le-ltb EXTRA (x .errand) (s .errand), le-ltb DELETE (x .kind) (s .kind), ne-eqb (x .kind) 0 (omega (arith, s .some)))
 
   buckets : Sane h x → bucketBeyond h x ≡ false
   unfolding bucketBeyond
-  buckets s = rw (lt-leb (h .m) (x .wanted) (s .4), lt-leb (h .m) (x .making) (s .5))
+  buckets s = rw (lt-leb (h .m) (x .wanted) (s .wanted), lt-leb (h .m) (x .making) (s .making))
 
   nodes : Sane h x → nodeBeyond (nodesOf h) x ≡ false
   unfolding nodeBeyond
   nodes s =
       let n = nodesOf h in
-      rw (le-ltb n (x .start) (s .6), le-ltb n (x .prev) (s .7), le-ltb n (x .cur) (s .8), le-ltb n (x .next) (s .9), le-ltb n (x .held) (s .10), le-ltb n (x .dummy) (s .11))
+      rw (le-ltb n (x .start) (s .start), le-ltb n (x .prev) (s .prev), le-ltb n (x .cur) (s .cur), le-ltb n (x .next) (s .next), le-ltb n (x .held) (s .held), le-ltb n (x .dummy) (s .dummy))
 
   bits : bit v (h .busy) ≡ 1 → x .place ≢ IDLE → bitDisagrees h v x ≡ false
   unfolding bitDisagrees isIn
@@ -135,7 +136,7 @@ module _ (h : Header) (v : ℕ) (c m : List ℕ) (P : ℕ → ℕ → ℕ → Ty
   unfolding workerDamaged
   busy-sound b on =
       let some : x .place ≢ IDLE = λ e. not-idle (b .spot) (sym (b .place) ∙ e) in
-      rw (known (b .sane) (b .spot) (b .place), le-ltb KEY-LIMIT (x .key) (b .sane .3), buckets (b .sane), nodes (b .sane), bits on some, not-zero some)
+      rw (known (b .sane) (b .spot) (b .place), le-ltb KEY-LIMIT (x .key) (b .sane .key), buckets (b .sane), nodes (b .sane), bits on some, not-zero some)
       (by-place (b .spot) (b .place) (b .at))
 
   idle-sound : x ≡ idle → bit v (h .busy) ≡ 0 → 0 < h .m → workerDamaged h v x ≡ false

@@ -13,13 +13,13 @@ use Rattle.choice.specs.Choice.{pick}
 use Rattle.choice.proofs.Auto.{pick-false, pick-true}
 use Rattle.split.specs.Split.{regular, dummy}
 use Rattle.sets.specs.Sets.{bit, dropped}
-use Rattle.names.specs.Names.{F1, L2, I8, I10, D4B, D6, EXTRA, INSERT, FIND, DELETE, numberOf}
+use Rattle.names.specs.Names.{EXTRA, INSERT, FIND, DELETE, numberOf}
 use Rattle.names.specs.declared.Answer.{Answer}
 use Rattle.names.specs.declared.Answer.the-variants.{Yes, No, NoDummy}
 use Rattle.header.specs.declared.Header.{Header}
 use Rattle.header.specs.Header.{nodesOf, busied}
 use Rattle.record.specs.declared.Worker.{Worker}
-use Rattle.record.specs.Worker.{idle, ticked, within, heldKey, heldDummy}
+use Rattle.record.specs.Worker.{idle, ticked, heldKey, heldDummy}
 use Rattle.moves.specs.declared.Seen.{Seen}
 use Rattle.acts.specs.declared.Effect.the-variants.{Nothing}
 use Rattle.acts.specs.declared.Move.{Move}
@@ -30,9 +30,10 @@ use Rattle.writes.specs.Carry.{closedBy}
 use Rattle.register.specs.Step.{closed}
 use Rattle.crew.specs.One.{turn}
 use Rattle.register.specs.Registered.{key, link, nextIn, Registered}
-use Rattle.register.specs.Events.{Event, nothing, added, removed, written}
+use Rattle.register.specs.Events.{Event, nothing, added, removed, written, tookEffect}
 use Rattle.story.proofs.Registers.{Same, Change, unmoved}
-use Rattle.story.proofs.Facts.{Nodes, Spot, i1, sz, tb, b2, b4, f1, f2, f3, f4, l2, b8, i8, i9, i10, d4a, d4b, d6, number, At, Sane, wantBy, keyOf, dummyOf, Busy}
+use Rattle.story.proofs.Sane.{Sane}
+use Rattle.story.proofs.Facts.{Nodes, Spot, i1, sz, tb, b2, b4, f1, f2, f3, f4, l2, b8, i8, i9, i10, d4a, d4b, d6, number, At, wantBy, keyOf, dummyOf, Busy}
 use Rattle.story.proofs.Stable.{Grows}
 use Rattle.story.proofs.Hands.{key-is, dummy-is}
 use Rattle.story.proofs.Core.{Pasts, recordOf, not-idle, Core, Inv, aside, back}
@@ -59,10 +60,7 @@ took d4b e = true
 took d6 e = true
 
 -- the same by the place's number
-abbrev pub tookAt : Worker → Bool
-tookAt x = within I8 I10 (x .place) || within D4B D6 (x .place) || (within F1 L2 (x .place) && eqb (x .errand) EXTRA)
-
-pub took-is : (p : Spot) (x : Worker) → x .place ≡ number p → tookAt x ≡ took p (x .errand)
+pub took-is : (p : Spot) (x : Worker) → x .place ≡ number p → tookEffect x ≡ took p (x .errand)
 took-is i1 x e = rw e
 took-is sz x e = rw e
 took-is tb x e = rw e

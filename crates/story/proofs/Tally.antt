@@ -9,12 +9,13 @@ use lib.Dec.{eqb}
 use Rattle.choice.specs.Choice.{pick}
 use Rattle.choice.proofs.Cases.{by-eq, both}
 use Rattle.names.specs.Names.{F1, L2, B8, I8, I9, D4B, D6, KEY, DUMMY, EXTRA}
+use Rattle.names.specs.Places.{insertIn, deleteIn, searches}
 use Rattle.header.specs.declared.Header.{Header}
 use Rattle.header.specs.Header.{countUp, countDown}
 use Rattle.record.specs.declared.Worker.{Worker}
 use Rattle.names.specs.declared.Answer.{Answer}
 use Rattle.record.specs.Fields.{to, withPrev, withCur, withHeld}
-use Rattle.record.specs.Worker.{idle, within}
+use Rattle.record.specs.Worker.{idle}
 use Rattle.moves.specs.declared.Seen.{Seen}
 use Rattle.acts.specs.declared.Effect.{Effect}
 use Rattle.acts.specs.declared.Effect.the-variants.{Nothing}
@@ -71,11 +72,11 @@ module _ (h : Header) (x : Worker) where
   end a e m p q = record { is = rw (m .event) (inl (m .count, omega (arith, none), omega (arith, none))) }
 
   -- what is to be counted at a place
-  inn : (p : ℕ) → x .place ≡ p → uncountedIn x ≡ pick (within I8 I9 p) 1 0
-  inn p e = ap (λ (q : ℕ). pick (within I8 I9 q) 1 0) e
+  inn : (p : ℕ) → x .place ≡ p → uncountedIn x ≡ pick (insertIn p) 1 0
+  inn p e = ap (λ (q : ℕ). pick (insertIn q) 1 0) e
 
-  out : (p : ℕ) → x .place ≡ p → uncountedOut x ≡ pick (within D4B D6 p || (within F1 L2 p && eqb (x .errand) EXTRA)) 1 0
-  out p e = ap (λ (q : ℕ). pick (within D4B D6 q || (within F1 L2 q && eqb (x .errand) EXTRA)) 1 0) e
+  out : (p : ℕ) → x .place ≡ p → uncountedOut x ≡ pick (deleteIn p || (searches p && eqb (x .errand) EXTRA)) 1 0
+  out p e = ap (λ (q : ℕ). pick (deleteIn q || (searches q && eqb (x .errand) EXTRA)) 1 0) e
 
   -- on the extra search
   abbrev extra : ℕ
