@@ -7,7 +7,7 @@ use mathlib.Core.Path.{_≡_}
 use Rattle.choice.specs.Table.{Claims, done, row, RefusedBy}
 use Rattle.tree.specs.Tree.{parentOf}
 use Rattle.words.specs.declared.Lengths.{Lengths}
-use Rattle.words.specs.Words.{Tables, lengths, SPLIT-KEY, LINK, STANDING, word, bucket}
+use Rattle.words.specs.Words.{Tables, lengths, SPLIT-KEY, LINK, STANDING, FREE, word, bucket}
 use Rattle.names.specs.Names.{IDLE, I1, TB, B2, B4, F1, F2, F3, F4, L2, B8, D4A, D4B, KEY, DUMMY, INSERT, FIND, DELETE, hasRow}
 use Rattle.names.specs.declared.Answer.{Answer}
 use Rattle.names.specs.declared.Answer.the-variants.{Limit, Short, Damaged, NoWorker, KeyAbove as AboveLimit, IsBusy, IsIdle, NoKind, NoKeyNode, NoDummy}
@@ -79,7 +79,7 @@ PlaceDamaged h x link = (heldFor x ≡ 0) ⊎ (x .prev ≡ 0) ⊎ ((x .prev ≡ 
 
 -- no node from the first to the last of these is free: a free node's standing is 0
 abbrev pub NoneFree : List ℕ → ℕ → ℕ → Type 0
-NoneFree ns first last = (n : ℕ) → first ≤ n → n ≤ last → word ns n STANDING ≡ 0 → ⊥
+NoneFree ns first last = (n : ℕ) → first ≤ n → n ≤ last → word ns n STANDING ≡ FREE → ⊥
 
 -- keys are the nodes M + W + 1 to N, dummies 1 to M + W
 abbrev pub NoKeyFree : Header → List ℕ → Type 0

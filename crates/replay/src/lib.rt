@@ -42,6 +42,12 @@ const TOO_LONG: u32 = 33;
 // The longest schedule.
 const LONGEST: usize = 65536;
 
+// The bytes that are read, one more than the longest schedule has, so that a longer one is told.
+pub const READ: usize = 65537;
+
+// The bytes that hold what any schedule prints: nine for each of the longest.
+pub const PRINTED: usize = 589824;
+
 // Whose operation a record is about: the worker, and the kind and key that its record has.
 struct Operation {
     worker: u32,

@@ -57,5 +57,5 @@ errors = record {
   stores-prints = refl;
   stores-loses = (refl, nowhere);
   finds-prints = refl;
-  counts-marked = (refl, λ l. neither 1 1 (λ e _. omega arith) (λ _ f. f (record { node = 5; on = then first (λ e. let z : _≡_ {A = ℕ} 5 0 = e in omega arith); has = refl })) (l 15 0 (omega arith)));
+  counts-marked = (refl, λ l. neither 1 1 (λ e _. omega arith) (λ _ f. f (record { node = 5; on = then first (λ e. let z : _≡_ {A = ℕ} 5 0 = e in omega arith); has = let z : _≡_ {A = ℕ} 1 1 = refl in z })) (l 15 0 (omega arith)));
 }

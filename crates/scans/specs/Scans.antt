@@ -4,7 +4,7 @@ use mathlib.Core.List.{List}
 use lib.Dec.{leb, eqb}
 use Rattle.choice.specs.Choice.{pick}
 use Rattle.sets.specs.Sets.{dropped}
-use Rattle.words.specs.Words.{STANDING, LARGEST-SET, word, put, store}
+use Rattle.words.specs.Words.{STANDING, FREE, LARGEST-SET, word, put, store}
 
 -- a standing once worker w is waited for no more: a set of workers loses w, and a taken node stays taken
 unfoldable pub leave : ℕ → ℕ → ℕ
@@ -20,7 +20,7 @@ sweep w (suc n) ns =
 -- the lowest free node of the d that follow n; 0 where none is free
 unfoldable pub freeFrom : List ℕ → ℕ → ℕ → ℕ
 freeFrom ns n zero = 0
-freeFrom ns n (suc d) = pick (eqb (word ns (suc n) STANDING) 0) (suc n) (freeFrom ns (suc n) d)
+freeFrom ns n (suc d) = pick (eqb (word ns (suc n) STANDING) FREE) (suc n) (freeFrom ns (suc n) d)
 
 -- the free node of those from node lo to node hi: the lowest; 0 where none is free
 unfoldable pub freeNode : List ℕ → ℕ → ℕ → ℕ

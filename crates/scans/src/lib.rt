@@ -44,7 +44,7 @@ pub fn free_node(nodes: &[u32], low: u32, high: u32) -> u32
     let mut n = previous(low);
     while n < high {
         n += 1;
-        if words::word(nodes, n, words::STANDING) == 0 {
+        if words::word(nodes, n, words::STANDING) == words::FREE {
             return n;
         }
     }

@@ -5,7 +5,7 @@ use mathlib.Core.List.{List, [], _∷_}
 use mathlib.Core.Logic.{_⊎_, _≢_, _↔_}
 use mathlib.Core.Path.{_≡_}
 use lib.Dec.{eqb}
-use Rattle.words.specs.Words.{LARGEST-SET}
+use Rattle.words.specs.Words.{FREE, LARGEST-SET}
 use Rattle.sets.specs.Sets.{bit}
 use Rattle.names.specs.Names.{IDLE, FIND, KEY-LIMIT, numberOf, ends}
 use Rattle.names.specs.declared.Answer.{Answer}
@@ -74,7 +74,7 @@ pub data Where : Type 0 where
   held waiting : (named : ℕ) → Where
 
 abbrev pub At : Shared → ℕ → Where → Type 0
-At s n free = standing (s .nodes) n ≡ 0
+At s n free = standing (s .nodes) n ≡ FREE
 At s n (held w) = (w < s .header .w) × ((heldKey (workerOf s w) ≡ n) ⊎ (heldDummy (workerOf s w) ≡ n))
 At s n chained = On (s .nodes) n
 At s n (waiting set) =

@@ -21,11 +21,11 @@ fn read_case(name: &[u8], ending: &[u8], into: &mut [u8]) -> usize
 
 // What the case's schedule prints is its text.
 fn agrees(name: &[u8]) -> bool {
-    let mut schedule = [0u8; 65537];
+    let mut schedule = [0u8; replay::READ];
     let read = read_case(name, b".bin", &mut schedule);
-    let mut printed = [0u8; 589824];
+    let mut printed = [0u8; replay::PRINTED];
     let end = replay::run(&schedule[..read], &mut printed);
-    let mut text = [0u8; 589824];
+    let mut text = [0u8; replay::PRINTED];
     let length = read_case(name, b".txt", &mut text);
     check::same(&printed[..end], &text[..length])
 }

@@ -38,6 +38,10 @@ LINK = 1
 abbrev pub STANDING : ℕ
 STANDING = 2
 
+-- the standing of a free node
+abbrev pub FREE : ℕ
+FREE = 0
+
 -- the standing that is written for a node that is taken
 abbrev pub TAKEN : ℕ
 TAKEN = 2147483648

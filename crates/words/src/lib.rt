@@ -9,6 +9,9 @@ pub const LINK: u32 = 1;
 
 pub const STANDING: u32 = 2;
 
+// The standing of a free node.
+pub const FREE: u32 = 0;
+
 // The standing that is written for a node that is taken.
 pub const TAKEN: u32 = 2147483648;
 

@@ -1,7 +1,7 @@
 -- A decision carried out: the write, and at an ended answer the operation closed.
 use Prim.Native.Nat.{ℕ}
 use mathlib.Core.List.{List}
-use Rattle.words.specs.Words.{Tables, tables, Left, left, STANDING, put}
+use Rattle.words.specs.Words.{Tables, tables, Left, left, STANDING, FREE, put}
 use Rattle.scans.specs.Scans.{sweep}
 use Rattle.names.specs.declared.Answer.{Answer}
 use Rattle.names.specs.declared.Answer.the-variants.{Going as GoingOn, Damaged as IsDamaged}
@@ -22,7 +22,7 @@ onward x e h = handedBack GoingOn (headerAfter e h) (ticked x)
 
 -- the end: the nodes still held are free, the worker's bit leaves each standing that is a set, up to the last node
 unfoldable pub closedBy : ℕ → ℕ → Worker → List ℕ → List ℕ
-closedBy last w x ns = sweep w last (put (put ns (heldKey x) STANDING 0) (heldDummy x) STANDING 0)
+closedBy last w x ns = sweep w last (put (put ns (heldKey x) STANDING FREE) (heldDummy x) STANDING FREE)
 
 -- the record is idle with zeros, the busy bit is cleared, and the ending step is counted in
 abbrev pub ending : ℕ → Header → Worker → Answer → Effect → Outcome

@@ -2,7 +2,7 @@
 use Prim.Native.Nat.{ℕ}
 use mathlib.Core.Bool.{Bool, true, false}
 use mathlib.Core.List.{List}
-use Rattle.words.specs.Words.{Tables, tables, SPLIT-KEY, LINK, STANDING, TAKEN, put, store, linkTo}
+use Rattle.words.specs.Words.{Tables, tables, SPLIT-KEY, LINK, STANDING, FREE, TAKEN, put, store, linkTo}
 use Rattle.header.specs.declared.Header.{Header}
 use Rattle.header.specs.Header.{sized, counted}
 use Rattle.acts.specs.declared.Effect.{Effect}
@@ -35,7 +35,7 @@ abbrev pub nodesAfter : Effect → List ℕ → List ℕ
 nodesAfter Nothing ns = ns
 nodesAfter (TakeKey n split) ns = taken n split ns
 nodesAfter (TakeDummy n split) ns = taken n split ns
-nodesAfter (Free n) ns = put ns n STANDING 0
+nodesAfter (Free n) ns = put ns n STANDING FREE
 nodesAfter (Aim n next) ns = put ns n LINK (linkTo next false)
 nodesAfter (Place n next prev) ns = put (put ns n LINK (linkTo next false)) prev LINK (linkTo n false)
 nodesAfter (Mark n next) ns = put ns n LINK (linkTo next true)

@@ -68,7 +68,7 @@ fn write(effect: Effect, nodes: &mut [u32], buckets: &mut [u32])
             take(nodes, node, split);
         }
         Effect::Free { node } => {
-            words::put(nodes, node, words::STANDING, 0);
+            words::put(nodes, node, words::STANDING, words::FREE);
         }
         Effect::Aim { node, next } => {
             aim(nodes, node, next, false);
@@ -145,8 +145,8 @@ fn close(last: u32, number: u32, worker: Worker, nodes: &mut [u32])
     ensures { λ _. ⌜ now (nodes .exit) ≡ closedBy last number worker (now (nodes .entry)) ⌝ }
 {
     let held = worker.holds();
-    words::put(nodes, held.key, words::STANDING, 0);
-    words::put(nodes, held.dummy, words::STANDING, 0);
+    words::put(nodes, held.key, words::STANDING, words::FREE);
+    words::put(nodes, held.dummy, words::STANDING, words::FREE);
     scans::sweep(nodes, last, number);
 }
 
