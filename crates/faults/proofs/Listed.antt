@@ -11,7 +11,7 @@ use lib.ListN.{length}
 use borrow.Author.Tests.{eqb-true, eqb-false}
 use Rattle.choice.proofs.Exactly.{Tells}
 use Rattle.choice.proofs.Telling.{tells-eq, tells-or, Clears, clears-as, clears-le}
-use Rattle.names.specs.Places.{Class, PlaceRow, places, meaning, among, from}
+use Rattle.names.specs.Places.{Class, PlaceRow, places, meaning, includes, from}
 use Rattle.names.proofs.Places.{Test, never, at, either, tested, endsBelow, column, by-rows}
 use Rattle.faults.specs.Rows.{IsOneOf}
 
@@ -45,7 +45,7 @@ kept false n ns = ns
 -- the numbers of the rows that have it
 abbrev listed : Class → List PlaceRow → List ℕ
 listed c [] = []
-listed c (r ∷ rs) = kept (among c (r .means)) (r .number) (listed c rs)
+listed c (r ∷ rs) = kept (includes c (r .means)) (r .number) (listed c rs)
 
 abbrev one-of : List ℕ → Test
 one-of [] = never
@@ -57,8 +57,8 @@ tells-one-of (n ∷ ns) p = tells-or (tells-eq p n) (tells-one-of ns p)
 
 pub tells-class :
     (c : Class) → let ns = listed c places in
-    column (λ p. among c (meaning p)) (length places) ≡ column (tested (one-of ns)) (length places) → endsBelow (one-of ns) (length places) ≡ true
-    → (p : ℕ) → Tells (among c (meaning p)) (IsOneOf p ns)
+    column (λ p. includes c (meaning p)) (length places) ≡ column (tested (one-of ns)) (length places) → endsBelow (one-of ns) (length places) ≡ true
+    → (p : ℕ) → Tells (includes c (meaning p)) (IsOneOf p ns)
 tells-class c rows e p =
     let ns = listed c places in
-    rw (by-rows (among c) (one-of ns) refl rows e p) (tells-one-of ns p)
+    rw (by-rows (includes c) (one-of ns) refl rows e p) (tells-one-of ns p)

@@ -17,8 +17,8 @@ use Rattle.lines.specs.declared.Line.the-variants.{Register, Ended, Refu
 use Rattle.lines.specs.declared.Pieces.{Pieces}
 use Rattle.lines.specs.Decimal.{decimal, signed}
 use Rattle.lines.specs.Lines.{line, kindWord, answerWord, kindNamed, registerLine, endedLine, refusedLine, endLine, lineText}
-use Rattle.lines.specs.Words.{wordAt, wordOfKind, wordOfAnswer}
-use Rattle.lines.specs.Pieces.{endOf, endedOf, endedPieces, registerPieces, refusedPieces, endPieces, piecesOf, piecesText}
+use Rattle.lines.specs.Words.{spelled, wordOfKind, wordOfAnswer}
+use Rattle.lines.specs.Pieces.{endSigned, endedOf, endedPieces, registerPieces, refusedPieces, endPieces, piecesOf, piecesText}
 
 -- where the kind has no word or no operation ended, nothing
 pub ended-none : (worker kind key : ℕ) (answer : Answer) (steps : ℕ) → kindNamed kind && ends answer ≡ false → [] ≡ endedLine worker kind key answer steps
@@ -37,20 +37,20 @@ kind-none kind = by (eqb kind INSERT) (eqb kind FIND) (eqb kind DELETE)
     by false false false = refl
 
 -- and where there is one, it stands there with a space on both sides
-kind-spelled : (kind : ℕ) → kindNamed kind ≡ true → wordAt (wordOfKind kind) ≡ 32 ∷ (kindWord kind ++ (32 ∷ []))
+kind-spelled : (kind : ℕ) → kindNamed kind ≡ true → spelled (wordOfKind kind) ≡ 32 ∷ (kindWord kind ++ (32 ∷ []))
 unfolding wordOfKind kindWord pick
 kind-spelled kind = by (eqb kind INSERT) (eqb kind FIND) (eqb kind DELETE)
   where
     by : (a b c : Bool) → a || (b || c) ≡ true
-        → wordAt (pick a 6 (pick b 7 (pick c 8 0))) ≡ 32 ∷ (pick a (105 ∷ 110 ∷ 115 ∷ 101 ∷ 114 ∷ 116 ∷ []) (pick b (102 ∷ 105 ∷ 110 ∷ 100 ∷ []) (pick c (100 ∷ 101 ∷ 108 ∷ 101 ∷ 116 ∷ 101 ∷ []) [])) ++ (32 ∷ []))
+        → spelled (pick a 6 (pick b 7 (pick c 8 0))) ≡ 32 ∷ (pick a (105 ∷ 110 ∷ 115 ∷ 101 ∷ 114 ∷ 116 ∷ []) (pick b (102 ∷ 105 ∷ 110 ∷ 100 ∷ []) (pick c (100 ∷ 101 ∷ 108 ∷ 101 ∷ 116 ∷ 101 ∷ []) [])) ++ (32 ∷ []))
     by true b c e = refl
     by false true c e = refl
     by false false true e = refl
     by false false false e = cc
 
-answer-spelled : (a : Answer) → ends a ≡ true → wordAt (wordOfAnswer a) ≡ 32 ∷ (answerWord a ++ (32 ∷ []))
+answer-spelled : (a : Answer) → ends a ≡ true → spelled (wordOfAnswer a) ≡ 32 ∷ (answerWord a ++ (32 ∷ []))
 unfolding answerWord
-answer-spelled = by-ending (λ (a : Answer). wordAt (wordOfAnswer a) ≡ 32 ∷ (answerWord a ++ (32 ∷ []))) refl refl refl refl
+answer-spelled = by-ending (λ (a : Answer). spelled (wordOfAnswer a) ≡ 32 ∷ (answerWord a ++ (32 ∷ []))) refl refl refl refl
 
 -- joined one way and the other
 three : (a b c e : List ℕ) → ((a ++ b) ++ c) ++ e ≡ a ++ (b ++ (c ++ e))
@@ -61,7 +61,7 @@ four a b c d e = simp append-assoc
 
 register-said : (m k w l : ℕ) → piecesText (registerPieces m k w l) ≡ registerLine m k w l
 unfolding registerLine
-register-said m k w l = four (wordAt 1 ++ decimal m) (32 ∷ decimal k) (32 ∷ decimal w) (32 ∷ decimal l) (10 ∷ [])
+register-said m k w l = four (spelled 1 ++ decimal m) (32 ∷ decimal k) (32 ∷ decimal w) (32 ∷ decimal l) (10 ∷ [])
 
 refused-said : (number offset : ℕ) → piecesText (refusedPieces number offset) ≡ refusedLine number offset
 unfolding refusedLine
@@ -72,9 +72,9 @@ end-said : (keys count size : ℕ) → piecesText (endPieces keys count size) �
 unfolding endLine endPieces signed pick
 end-said keys count size = by (ltb count 2147483648)
   where
-    by : (t : Bool) → piecesText (pick t (endOf keys 4 count size) (endOf keys 5 (4294967296 - count) size)) ≡ line ((101 ∷ 110 ∷ 100 ∷ []) ∷ decimal keys ∷ pick t (decimal count) (45 ∷ decimal (4294967296 - count)) ∷ decimal size ∷ [])
-    by true = three (wordAt 3 ++ decimal keys) (32 ∷ decimal count) (32 ∷ decimal size) (10 ∷ [])
-    by false = three (wordAt 3 ++ decimal keys) (32 ∷ 45 ∷ decimal (4294967296 - count)) (32 ∷ decimal size) (10 ∷ [])
+    by : (t : Bool) → piecesText (pick t (endSigned keys 4 count size) (endSigned keys 5 (4294967296 - count) size)) ≡ line ((101 ∷ 110 ∷ 100 ∷ []) ∷ decimal keys ∷ pick t (decimal count) (45 ∷ decimal (4294967296 - count)) ∷ decimal size ∷ [])
+    by true = three (spelled 3 ++ decimal keys) (32 ∷ decimal count) (32 ∷ decimal size) (10 ∷ [])
+    by false = three (spelled 3 ++ decimal keys) (32 ∷ 45 ∷ decimal (4294967296 - count)) (32 ∷ decimal size) (10 ∷ [])
 
 ended-said : (worker kind key : ℕ) (answer : Answer) (steps : ℕ) → piecesText (endedPieces worker kind key answer steps) ≡ endedLine worker kind key answer steps
 unfolding endedPieces endedLine pick

@@ -11,7 +11,7 @@ use Rattle.lines.specs.declared.Line.{Line}
 use Rattle.lines.specs.declared.Line.the-variants.{Register, Ended, Refused, End}
 use Rattle.lines.specs.declared.Pieces.{Pieces}
 use Rattle.lines.specs.Decimal.{decimal}
-use Rattle.lines.specs.Words.{wordAt, wordOfKind, wordOfAnswer}
+use Rattle.lines.specs.Words.{spelled, wordOfKind, wordOfAnswer}
 use Rattle.lines.specs.Word.{NOTHING, REGISTER, REFUSED, END, SPACE, MINUS, NEWLINE}
 
 -- a line's pieces, by how many numbers it has
@@ -38,12 +38,12 @@ abbrev pub refusedPieces : ℕ → ℕ → Pieces
 refusedPieces number offset = pieces 2 (REFUSED ∷ SPACE ∷ NEWLINE ∷ NOTHING ∷ NOTHING ∷ []) (number ∷ offset ∷ 0 ∷ 0 ∷ [])
 
 -- the end of a run, by the word before the count and the number after that word
-abbrev pub endOf : ℕ → ℕ → ℕ → ℕ → Pieces
-endOf keys sign number size = pieces 3 (END ∷ sign ∷ SPACE ∷ NEWLINE ∷ NOTHING ∷ []) (keys ∷ number ∷ size ∷ 0 ∷ [])
+abbrev pub endSigned : ℕ → ℕ → ℕ → ℕ → Pieces
+endSigned keys sign number size = pieces 3 (END ∷ sign ∷ SPACE ∷ NEWLINE ∷ NOTHING ∷ []) (keys ∷ number ∷ size ∷ 0 ∷ [])
 
 -- the count is signed: its minus is in the word before it
 unfoldable pub endPieces : ℕ → ℕ → ℕ → Pieces
-endPieces keys count size = pick (ltb count 2147483648) (endOf keys SPACE count size) (endOf keys MINUS (4294967296 - count) size)
+endPieces keys count size = pick (ltb count 2147483648) (endSigned keys SPACE count size) (endSigned keys MINUS (4294967296 - count) size)
 
 -- the pieces of a line
 abbrev pub piecesOf : Line → Pieces
@@ -55,8 +55,8 @@ piecesOf (End keys count size) = endPieces keys count size
 -- the first so many numbers, each with its word before it
 abbrev pub upTo : ℕ → Pieces → List ℕ
 upTo zero ps = []
-upTo (suc n) ps = upTo n ps ++ (wordAt (getD (ps .words) n 0) ++ decimal (getD (ps .numbers) n 0))
+upTo (suc n) ps = upTo n ps ++ (spelled (getD (ps .words) n 0) ++ decimal (getD (ps .numbers) n 0))
 
 -- all of them, and the word after the last
 abbrev pub piecesText : Pieces → List ℕ
-piecesText ps = upTo (ps .count) ps ++ wordAt (getD (ps .words) (ps .count) 0)
+piecesText ps = upTo (ps .count) ps ++ spelled (getD (ps .words) (ps .count) 0)

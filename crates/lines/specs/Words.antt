@@ -21,8 +21,8 @@ abbrev pub STARTS : List ℕ
 STARTS = 0 ∷ 0 ∷ 9 ∷ 17 ∷ 21 ∷ 22 ∷ 24 ∷ 32 ∷ 38 ∷ 46 ∷ 51 ∷ 55 ∷ 61 ∷ 68 ∷ 69 ∷ []
 
 -- a word: it ends where the next one starts
-abbrev pub wordAt : ℕ → List ℕ
-wordAt w = take (getD STARTS (w + 1) 0 - getD STARTS w 0) (drop (getD STARTS w 0) WORDS)
+abbrev pub spelled : ℕ → List ℕ
+spelled w = take (getD STARTS (w + 1) 0 - getD STARTS w 0) (drop (getD STARTS w 0) WORDS)
 
 -- the word of a kind, and of an answer; nothing where it has none
 unfoldable pub wordOfKind : ℕ → ℕ

@@ -6,7 +6,7 @@ ghost use lib.ListN.{getD};
 ghost use Rattle.text.specs.Text.{Laid};
 ghost use Rattle.lines.specs.Decimal.{decimal};
 ghost use Rattle.lines.specs.Lines.{lineText};
-ghost use Rattle.lines.specs.Words.{STARTS, wordAt, wordOfKind, wordOfAnswer};
+ghost use Rattle.lines.specs.Words.{STARTS, spelled, wordOfKind, wordOfAnswer};
 ghost use Rattle.lines.specs.Pieces.{registerPieces, endedPieces, refusedPieces, endPieces, piecesOf};
 use crate::word::END;
 use crate::word::MINUS;
@@ -196,7 +196,7 @@ fn start_of(word: usize) -> usize
 
 // One word, cut out of the text in which all of them stand side by side.
 fn put_word(out: &mut [u8], at: usize, word: u8) -> usize
-    ensures { λ r. ⌜ Laid (now (out .entry)) at (wordAt word) (now (out .exit)) r ⌝ }
+    ensures { λ r. ⌜ Laid (now (out .entry)) at (spelled word) (now (out .exit)) r ⌝ }
 {
     let words = *b"register refused end   - insert  find  delete  yes  no  full  dummy \n";
     let end = lesser(start_of((word as usize) + 1), 69);
@@ -215,7 +215,7 @@ fn put_number(out: &mut [u8], at: usize, n: u64) -> usize
 
 // A word, and the number right after it.
 fn put_piece(out: &mut [u8], at: usize, word: u8, n: u64) -> usize
-    ensures { λ r. ⌜ Laid (now (out .entry)) at (wordAt word ++ decimal n) (now (out .exit)) r ⌝ }
+    ensures { λ r. ⌜ Laid (now (out .entry)) at (spelled word ++ decimal n) (now (out .exit)) r ⌝ }
 {
     let place = put_word(out, at, word);
     put_number(out, place, n)

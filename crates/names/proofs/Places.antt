@@ -12,7 +12,7 @@ use borrow.Author.Tests.{ne-eqb, lt-leb, ltb-true, leb-true, leb-false}
 use Rattle.choice.specs.Choice.{within}
 use Rattle.choice.proofs.Telling.{both-true}
 use Rattle.names.specs.Names.{I1, SZ, B2, B4, F1, L2, B8, I8, I9, I10, D4A, D4B, D6}
-use Rattle.names.specs.Places.{Class, searching, keyInHand, bucketInMaking, insertUncounted, deleteUncounted, effective, insertOnly, deleteOnly, sizeRemembered, PlaceRow, places, meansIn, meaning, among, searches, holdsKey, makes, insertIn, deleteIn, inEffect, needsInsert, needsDelete, remembersSize, PlacesInOrder}
+use Rattle.names.specs.Places.{Class, searching, keyInHand, bucketInMaking, insertUncounted, deleteUncounted, effective, insertOnly, deleteOnly, sizeRemembered, PlaceRow, places, meansIn, meaning, includes, searches, holdsKey, makes, insertIn, deleteIn, inEffect, needsInsert, needsDelete, remembersSize, PlacesInOrder}
 
 pub places-in-order : PlacesInOrder
 places-in-order = refl
@@ -77,34 +77,34 @@ by-rows said t nothing rows e p = by (leb (length places) p) refl
 
 -- two classes that share no place
 pub apart :
-    (c d : Class) → column (λ p. among c (meaning p) && among d (meaning p)) (length places) ≡ column (tested never) (length places)
-    → (p : ℕ) → among c (meaning p) ≡ true → among d (meaning p) ≡ false
-apart c d rows p e = rw e at (by-rows (λ cs. among c cs && among d cs) never refl rows refl p)
+    (c d : Class) → column (λ p. includes c (meaning p) && includes d (meaning p)) (length places) ≡ column (tested never) (length places)
+    → (p : ℕ) → includes c (meaning p) ≡ true → includes d (meaning p) ≡ false
+apart c d rows p e = rw e at (by-rows (λ cs. includes c cs && includes d cs) never refl rows refl p)
 
 -- ---- each class is a test of the numbers
 pub searches-within : (p : ℕ) → searches p ≡ within F1 L2 p
-searches-within = by-rows (among searching) (between F1 L2) refl refl refl
+searches-within = by-rows (includes searching) (between F1 L2) refl refl refl
 
 pub holds-within : (p : ℕ) → holdsKey p ≡ within SZ B8 p
-holds-within = by-rows (among keyInHand) (between SZ B8) refl refl refl
+holds-within = by-rows (includes keyInHand) (between SZ B8) refl refl refl
 
 pub makes-at : (p : ℕ) → makes p ≡ (eqb p B2 || eqb p B4 || eqb p B8)
-makes-at = by-rows (among bucketInMaking) (either (either (at B2) (at B4)) (at B8)) refl refl refl
+makes-at = by-rows (includes bucketInMaking) (either (either (at B2) (at B4)) (at B8)) refl refl refl
 
 pub insert-in-within : (p : ℕ) → insertIn p ≡ within I8 I9 p
-insert-in-within = by-rows (among insertUncounted) (between I8 I9) refl refl refl
+insert-in-within = by-rows (includes insertUncounted) (between I8 I9) refl refl refl
 
 pub delete-in-within : (p : ℕ) → deleteIn p ≡ within D4B D6 p
-delete-in-within = by-rows (among deleteUncounted) (between D4B D6) refl refl refl
+delete-in-within = by-rows (includes deleteUncounted) (between D4B D6) refl refl refl
 
 pub effect-within : (p : ℕ) → inEffect p ≡ (within I8 I10 p || within D4B D6 p)
-effect-within = by-rows (among effective) (either (between I8 I10) (between D4B D6)) refl refl refl
+effect-within = by-rows (includes effective) (either (between I8 I10) (between D4B D6)) refl refl refl
 
 pub insert-steps : (p : ℕ) → needsInsert p ≡ (eqb p I1 || within I8 I10 p)
-insert-steps = by-rows (among insertOnly) (either (at I1) (between I8 I10)) refl refl refl
+insert-steps = by-rows (includes insertOnly) (either (at I1) (between I8 I10)) refl refl refl
 
 pub delete-steps : (p : ℕ) → needsDelete p ≡ within D4A D6 p
-delete-steps = by-rows (among deleteOnly) (between D4A D6) refl refl refl
+delete-steps = by-rows (includes deleteOnly) (between D4A D6) refl refl refl
 
 pub size-within : (p : ℕ) → remembersSize p ≡ within I9 I10 p
-size-within = by-rows (among sizeRemembered) (between I9 I10) refl refl refl
+size-within = by-rows (includes sizeRemembered) (between I9 I10) refl refl refl

@@ -74,36 +74,36 @@ abbrev is : {A : Type 0} → Dec A → Bool
 is (yes e) = true
 is (no n) = false
 
-abbrev pub among : Class → List Class → Bool
-among c [] = false
-among c (d ∷ ds) = is (class-discrete c d) || among c ds
+abbrev pub includes : Class → List Class → Bool
+includes c [] = false
+includes c (d ∷ ds) = is (class-discrete c d) || includes c ds
 
 abbrev pub searches : ℕ → Bool
-searches p = among searching (meaning p)
+searches p = includes searching (meaning p)
 
 abbrev pub holdsKey : ℕ → Bool
-holdsKey p = among keyInHand (meaning p)
+holdsKey p = includes keyInHand (meaning p)
 
 abbrev pub makes : ℕ → Bool
-makes p = among bucketInMaking (meaning p)
+makes p = includes bucketInMaking (meaning p)
 
 abbrev pub insertIn : ℕ → Bool
-insertIn p = among insertUncounted (meaning p)
+insertIn p = includes insertUncounted (meaning p)
 
 abbrev pub deleteIn : ℕ → Bool
-deleteIn p = among deleteUncounted (meaning p)
+deleteIn p = includes deleteUncounted (meaning p)
 
 abbrev pub inEffect : ℕ → Bool
-inEffect p = among effective (meaning p)
+inEffect p = includes effective (meaning p)
 
 abbrev pub needsInsert : ℕ → Bool
-needsInsert p = among insertOnly (meaning p)
+needsInsert p = includes insertOnly (meaning p)
 
 abbrev pub needsDelete : ℕ → Bool
-needsDelete p = among deleteOnly (meaning p)
+needsDelete p = includes deleteOnly (meaning p)
 
 abbrev pub remembersSize : ℕ → Bool
-remembersSize p = among sizeRemembered (meaning p)
+remembersSize p = includes sizeRemembered (meaning p)
 
 -- ---- the table's order is the numbers': row i is the row of place number i
 abbrev pub numbers : List PlaceRow → List ℕ

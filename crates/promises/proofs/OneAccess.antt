@@ -20,7 +20,7 @@ use Rattle.acts.specs.declared.Outcome.{Outcome}
 use Rattle.writes.specs.Writes.{tablesAfter}
 use Rattle.register.specs.Step.{seenBy, carried}
 use Rattle.register.specs.Calls.{steppedBy, stepVerdict, stepOf}
-use Rattle.promises.specs.Access.{Word, ofNode, ofBucket, splitKey, link, standing, value, Lent, Long, Alike, Agree, Reads, SameStandings, Ends}
+use Rattle.promises.specs.Access.{Word, ofNode, ofBucket, splitKey, link, standing, value, Lent, Long, Alike, Agree, Reads, SameStandings, EndsOperation}
 use Rattle.promises.specs.OneAccess.{valueIn, SameStep, WritesSame}
 use Rattle.promises.proofs.Stores.{stores, effect-stores}
 use Rattle.promises.proofs.InRange.{InRange, pass-range}
@@ -73,14 +73,14 @@ module _ (t : Turn) (ts us : Tables) (l : Long (t .header) ts) (m : Long (t .hea
   ended-alike same r a e (ofBucket b) lent = kept-alike r a e (ofBucket b) lent (λ i low q. let z : _≡_ {A = ℕ} 0 1 = cc in omega arith)
 
   carried-alike :
-      InRange (t .header) (t .worker) → (d : Move) → (Ends d → SameStandings (t .header) ts us) → (v : Word) → Lent (t .header) v
+      InRange (t .header) (t .worker) → (d : Move) → (EndsOperation d → SameStandings (t .header) ts us) → (v : Word) → Lent (t .header) v
       → Same v (carried t d ts) (carried t d us)
   carried-alike r Damaged same v lent = inl (refl, refl)
   carried-alike r (Going x e) same v lent = effect-alike e v lent
   carried-alike r (Ended a e) same v lent = ended-alike (same tt) r a e v lent
 
   lent-alike :
-      Agree (Reads t) (t .header) ts us → (Ends (decided (seenBy t ts)) → SameStandings (t .header) ts us) → (v : Word) → Lent (t .header) v
+      Agree (Reads t) (t .header) ts us → (EndsOperation (decided (seenBy t ts)) → SameStandings (t .header) ts us) → (v : Word) → Lent (t .header) v
       → Same v (stepOf t ts) (stepOf t us)
   unfolding stepOf
   lent-alike agree same v lent = rw (← runs .verdict) (go (stepVerdict t (lengths ts)) refl)

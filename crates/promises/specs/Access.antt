@@ -116,7 +116,7 @@ pub data Closes (h : Header) : Move → Word → Type 0 where
   closes : (a : Answer) (e : Effect) (n : ℕ) → 1 ≤ n → n ≤ nodesOf h → Closes h (Ended a e) (ofNode n standing)
 
 -- the decision ends the operation
-abbrev pub Ends : Move → Type 0
-Ends Damaged = ⊥
-Ends (Going x e) = ⊥
-Ends (Ended a e) = Unit {0}
+abbrev pub EndsOperation : Move → Type 0
+EndsOperation Damaged = ⊥
+EndsOperation (Going x e) = ⊥
+EndsOperation (Ended a e) = Unit {0}

@@ -9,7 +9,7 @@ use Rattle.words.specs.Words.{Tables, lengths, Left}
 use Rattle.acts.specs.declared.Outcome.{Outcome}
 use Rattle.register.specs.Step.{wordFor, seenBy}
 use Rattle.register.specs.Calls.{stepVerdict, stepOf}
-use Rattle.promises.specs.Access.{Word, value, Reads, Agree, Long, Alike, SameStandings, Ends, Writes, Closes}
+use Rattle.promises.specs.Access.{Word, value, Reads, Agree, Long, Alike, SameStandings, EndsOperation, Writes, Closes}
 
 -- what stands in the word after a step
 abbrev pub valueIn : Word → Left Outcome → ℕ
@@ -29,7 +29,7 @@ ReadsOnly = (t : Turn) (ts us : Tables) → Agree (Reads t) (t .header) ts us �
 abbrev pub WritesSame : Type 0
 WritesSame =
     (t : Turn) (ts us : Tables) → Agree (Reads t) (t .header) ts us → Long (t .header) ts → Long (t .header) us
-    → (Ends (decided (seenBy t ts)) → SameStandings (t .header) ts us)
+    → (EndsOperation (decided (seenBy t ts)) → SameStandings (t .header) ts us)
     → (v : Word) → Alike (value v ts) (value v us) (valueIn v (stepOf t ts)) (valueIn v (stepOf t us))
 
 -- a step writes the words of its place alone, and where the operation ends standings of the nodes 1 to N

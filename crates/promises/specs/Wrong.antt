@@ -43,8 +43,8 @@ abbrev pub header : (size count : ℕ) → Header
 header size count = busied 3 (counted count (sized size (freshHeader 4 1 2 1)))
 
 -- worker 0's turn, with worker 1 busy too
-abbrev pub turn : Header → Worker → Turn
-turn h x = record { number = 0; header = h; worker = x }
+abbrev pub ofWorker0 : Header → Worker → Turn
+ofWorker0 h x = record { number = 0; header = h; worker = x }
 
 -- as prepared: node 1 taken, bucket 0 holds it
 abbrev pub emptyBuckets : List ℕ
@@ -59,27 +59,27 @@ marked = tables (0 ∷ 14 ∷ TAKEN ∷ 0 ∷ 0 ∷ 0 ∷ 0 ∷ 0 ∷ 0 ∷ 0 �
 
 -- worker 0 idle, with worker 1 busy
 abbrev pub starting : Turn
-starting = turn (busied 2 (header 2 0)) idle
+starting = ofWorker0 (busied 2 (header 2 0)) idle
 
 -- an insert of key 0 at its first step
 abbrev pub inserting : Turn
-inserting = turn (header 2 0) (fresh I1 INSERT 0)
+inserting = ofWorker0 (header 2 0) (fresh I1 INSERT 0)
 
 -- a find of key 1 that makes bucket 1, at B4
 abbrev pub making : Turn
-making = turn (header 2 0) (record { place = B4; errand = KEY; kind = FIND; key = 1; wanted = 1; making = 1; size = 0; start = 1; prev = 0; cur = 0; next = 0; marked = false; held = 0; dummy = 0; steps = 3 })
+making = ofWorker0 (header 2 0) (record { place = B4; errand = KEY; kind = FIND; key = 1; wanted = 1; making = 1; size = 0; start = 1; prev = 0; cur = 0; next = 0; marked = false; held = 0; dummy = 0; steps = 3 })
 
 -- a find of key 2 that read size 2 and so wants bucket 0, at TB; size is 4 by now
 abbrev pub wanting : Turn
-wanting = turn (header 4 0) (withSteps 1 (fresh TB FIND 2))
+wanting = ofWorker0 (header 4 0) (withSteps 1 (fresh TB FIND 2))
 
 -- a delete of key 0 that has marked node 7, at D4b
 abbrev pub unlinking : Turn
-unlinking = turn (header 2 1) (record { place = D4B; errand = KEY; kind = DELETE; key = 0; wanted = 0; making = 0; size = 0; start = 1; prev = 1; cur = 7; next = 0; marked = false; held = 0; dummy = 0; steps = 6 })
+unlinking = ofWorker0 (header 2 1) (record { place = D4B; errand = KEY; kind = DELETE; key = 0; wanted = 0; making = 0; size = 0; start = 1; prev = 1; cur = 7; next = 0; marked = false; held = 0; dummy = 0; steps = 6 })
 
 -- the same delete at its last step, with node 7 off the chain and waited for
 abbrev pub counting : Turn
-counting = turn (header 2 1) (withSteps 7 (to D6 (unlinking .worker)))
+counting = ofWorker0 (header 2 1) (withSteps 7 (to D6 (unlinking .worker)))
 
 abbrev pub unlinked : Tables
 unlinked = tables (0 ∷ 0 ∷ TAKEN ∷ 0 ∷ 0 ∷ 0 ∷ 0 ∷ 0 ∷ 0 ∷ 0 ∷ 0 ∷ 0 ∷ 0 ∷ 0 ∷ 0 ∷ 0 ∷ 0 ∷ 0 ∷ 1 ∷ 1 ∷ 3 ∷ []) emptyBuckets

@@ -12,7 +12,7 @@ use Rattle.text.proofs.Laying.{laid-on, laid-as}
 use Rattle.lines.specs.declared.Line.{Line}
 use Rattle.lines.specs.declared.Pieces.{Pieces}
 use Rattle.lines.specs.Decimal.{decimal}
-use Rattle.lines.specs.Words.{wordAt}
+use Rattle.lines.specs.Words.{spelled}
 use Rattle.lines.specs.Pieces.{upTo, piecesOf, piecesText}
 use Rattle.lines.proofs.Joined.{said, count-most}
 use Rattle.lines.proofs.put_line.Statement.{statement}
@@ -23,8 +23,8 @@ few : (p : Pieces) (l : Line) → p ≡ piecesOf l → p .count ≤ 4
 few p l e = rw e (count-most l)
 
 -- one number more, with its word before it
-one-more : (n : ℕ) (ps : Pieces) (text : List ℕ) → upTo n ps ++ ((wordAt (getD (ps .words) n 0) ++ decimal (getD (ps .numbers) n 0)) ++ text) ≡ upTo (n + 1) ps ++ text
-one-more n ps text = rw (add-one n) (sym (append-assoc (upTo n ps) (wordAt (getD (ps .words) n 0) ++ decimal (getD (ps .numbers) n 0)) text))
+one-more : (n : ℕ) (ps : Pieces) (text : List ℕ) → upTo n ps ++ ((spelled (getD (ps .words) n 0) ++ decimal (getD (ps .numbers) n 0)) ++ text) ≡ upTo (n + 1) ps ++ text
+one-more n ps text = rw (add-one n) (sym (append-assoc (upTo n ps) (spelled (getD (ps .words) n 0) ++ decimal (getD (ps .numbers) n 0)) text))
 
 abbrev Inv-loop : tie.InvT-loop
 Inv-loop out₀ at pieces count place₀ i₀ out place i =
@@ -78,7 +78,7 @@ returns c =
     let l = c .before .before .before .before .before .before .loop in
     let p = c .before .before .before .before .before .before .before .pieces-of in
     let all : l .i ≡ p .result .count = omega arith in
-    laid-as (ap (λ (n : ℕ). upTo n (p .result) ++ wordAt (getD (p .result .words) (p .result .count) 0)) all ∙ ap piecesText (p .ensures) ∙ said (c .before .before .before .before .before .before .before .before .before .args .line)) (l .inv .2 _ _ _ (c .before .before .put-word .ensures))
+    laid-as (ap (λ (n : ℕ). upTo n (p .result) ++ spelled (getD (p .result .words) (p .result .count) 0)) all ∙ ap piecesText (p .ensures) ∙ said (c .before .before .before .before .before .before .before .before .before .args .line)) (l .inv .2 _ _ _ (c .before .before .put-word .ensures))
 
 pub put-line-spec : {M : Type 1} → statement M
 put-line-spec =
