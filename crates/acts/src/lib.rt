@@ -1,5 +1,7 @@
 // What a step can do: its one write to shared memory, and what becomes of the operation. The places decide it, the writes carry it out.
 // And what a call hands back.
+#![tactic(auto)]
+
 ghost use Rattle.std.specs.Prelude.{◌≡◌};
 ghost use Rattle.acts.specs.Acts.{answered};
 
@@ -8,7 +10,7 @@ use names::Answer;
 use record::Worker;
 
 // The write of one step, by what it does to shared memory.
-#[derive(Drop)]
+#[derive(Clone, Copy)]
 pub enum Effect {
     Nothing,
     // I1: the key node is taken, with its split key.
@@ -64,7 +66,7 @@ pub enum Effect {
 }
 
 // What is decided: damaged words, or the record that goes on, or the answer that ends the operation, with the write.
-#[derive(Drop)]
+#[derive(Clone, Copy)]
 pub enum Move {
     Damaged,
     Going { worker: Worker, effect: Effect },
@@ -72,7 +74,7 @@ pub enum Move {
 }
 
 // What a call hands back beside a record; an ended answer gives the operation's steps.
-#[derive(Drop)]
+#[derive(Clone, Copy)]
 pub struct Called {
     pub answer: Answer,
     pub steps: u32,
@@ -80,7 +82,7 @@ pub struct Called {
 }
 
 // What a start or a step hands back.
-#[derive(Drop)]
+#[derive(Clone, Copy)]
 pub struct Outcome {
     pub called: Called,
     pub worker: Worker,

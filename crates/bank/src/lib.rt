@@ -1,4 +1,6 @@
 // The table of records by value, lent for a call and taken back: whoever holds a register needs no slice of worker structs of its own.
+#![tactic(auto)]
+
 ghost use Rattle.std.specs.Prelude.{◌≡◌};
 ghost use Rattle.words.specs.Words.{tables, left};
 ghost use Rattle.crew.specs.Crew.{crew, serve_at, prepare_at};
@@ -10,7 +12,7 @@ use record::Worker;
 use register::Call;
 
 // The table by value, with what the call hands back.
-#[derive(Drop)]
+#[derive(Clone, Copy)]
 pub struct Bank {
     pub called: Called,
     pub workers: [Worker; 16],

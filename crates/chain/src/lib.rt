@@ -1,4 +1,6 @@
 // The registered keys, counted off the chain.
+#![tactic(auto)]
+
 ghost use Rattle.std.specs.Prelude.{◌≡◌};
 ghost use Rattle.choice.specs.Choice.{pick};
 ghost use Rattle.chain.specs.Chain.{is_key, keys_from};

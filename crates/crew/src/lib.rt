@@ -1,4 +1,6 @@
 // The workers' records side by side in one lent table: a record is taken out by value, the register's own call is made on it, and it is stored back.
+#![tactic(auto)]
+
 ghost use Rattle.std.specs.Prelude.{◌≡◌, ◌≤◌, length};
 ghost use Rattle.words.specs.Words.{tables, left};
 ghost use Rattle.acts.specs.Acts.{handed_back};
@@ -16,7 +18,7 @@ use register::{Call, Turn};
 use words::Lengths;
 
 // What preparing hands back by value, and the records that it wants: the first `count` as `worker`.
-#[derive(Drop)]
+#[derive(Clone, Copy)]
 pub struct Ready {
     pub called: Called,
     pub count: usize,

@@ -1,4 +1,6 @@
 // The faults of a worker's record, row by row of the scope paper's "12 is given exactly when".
+#![tactic(auto)]
+
 ghost use Rattle.std.specs.Prelude.{◌≡◌, ltb};
 ghost use Rattle.faults.specs.Faults.{unknown_name, bucket_beyond, node_beyond, bit_disagrees, idle_not_zero, kind_misfit, errand_misfit, making_astray, size_misfit, misfits, worker_damaged};
 

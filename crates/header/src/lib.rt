@@ -1,4 +1,6 @@
 // The register's header, by value: its faults, row by row of the scope paper, the load test, and the header changed, each change handing the changed header back.
+#![tactic(auto)]
+
 ghost use Rattle.std.specs.Prelude.{◌≡◌};
 ghost use Rattle.header.specs.Header.{fresh, sized, counted, counted_up, counted_down, busy_with, busy_without, nodes_of, limit_broken, size_broken, busy_beyond, header_damaged, is_short, missing, doubles};
 
@@ -6,7 +8,7 @@ use names::Answer;
 use words::Lengths;
 
 // The register's header: limits M, K, W, L, the size, the count and the set of busy workers.
-#[derive(Drop)]
+#[derive(Clone, Copy)]
 pub struct Header {
     pub m: u32,
     pub k: u32,

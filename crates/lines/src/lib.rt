@@ -1,4 +1,6 @@
 // The lines that a schedule prints, laid in a lent buffer: each is a few words with numbers between them.
+#![tactic(auto)]
+
 ghost use Rattle.std.specs.Prelude.{min, ◌≡◌, ◌++◌, get_or};
 ghost use Rattle.text.specs.Text.{Laid};
 ghost use Rattle.lines.specs.Decimal.{decimal};
@@ -13,7 +15,7 @@ use text::put_text;
 mod word;
 
 // A line, by what it tells; numbers as the scope paper has them.
-#[derive(Drop)]
+#[derive(Clone, Copy)]
 pub enum Line {
     Register {
         m: u32,
@@ -40,7 +42,7 @@ pub enum Line {
 }
 
 // What a line is made of: the first so many of these numbers, each with its word before it, and the word after the last.
-#[derive(Drop)]
+#[derive(Clone, Copy)]
 struct Pieces {
     words: [u8; 5],
     numbers: [u64; 4],

@@ -1,4 +1,6 @@
 // What one step does, place by place, decided from numbers alone: the header, the record and the word that the step read.
+#![tactic(auto)]
+
 ghost use Rattle.std.specs.Prelude.{◌≡◌, ◌%◌};
 ghost use Rattle.words.specs.Words.{is_to};
 ghost use Rattle.moves.specs.Moves.{on, bad_link, want_of, held_for, not_found, found, found_key, comes, f1, f2, f3, judged, f4, decided};
@@ -12,7 +14,7 @@ mod buckets;
 mod changes;
 
 // What a step sees: what it is handed, the shared word that it read, and at F3 the split key of cur.
-#[derive(Drop)]
+#[derive(Clone, Copy)]
 pub struct Seen {
     pub header: Header,
     pub worker: Worker,

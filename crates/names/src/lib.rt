@@ -1,4 +1,6 @@
 // The scope paper's names: places, errands, kinds of operation, and what a call returns.
+#![tactic(auto)]
+
 ghost use Rattle.std.specs.Prelude.{◌≡◌};
 ghost use Rattle.names.specs.Names.{number_of, refuses, ends, goes_on};
 
@@ -13,7 +15,7 @@ pub const KEY_LIMIT: u32 = 2147483647;
 pub const CEILING: u32 = 4294967295;
 
 // What a call returns, in the scope paper's order of numbers.
-#[derive(Drop)]
+#[derive(Clone, Copy)]
 pub enum Answer {
     Going,
     Yes,
@@ -31,7 +33,7 @@ pub enum Answer {
 }
 
 // Whether a call is refused before any word is read.
-#[derive(Drop)]
+#[derive(Clone, Copy)]
 pub enum Verdict {
     Pass,
     Refused(Answer),

@@ -1,4 +1,6 @@
 // The numbers of a record's body, the least significant byte first. Every function is total: a byte past the body's end is 0.
+#![tactic(auto)]
+
 ghost use Rattle.std.specs.Prelude.{◌≡◌, get_or};
 ghost use Rattle.numbers.specs.Numbers.{little_endian};
 

@@ -1,4 +1,6 @@
 // Preparing a register over the lent tables.
+#![tactic(auto)]
+
 ghost use Rattle.std.specs.Prelude.{◌≡◌};
 ghost use Rattle.words.specs.Words.{tables, left};
 ghost use Rattle.prepare.specs.Prepare.{fresh_header, prepare_verdict, too_few_for, prepared};
@@ -9,7 +11,7 @@ use names::{Answer, Verdict};
 use words::Lengths;
 
 // What a register is asked to hold: M buckets, K key nodes, W workers, load L.
-#[derive(Drop)]
+#[derive(Clone, Copy)]
 pub struct Limits {
     pub m: u32,
     pub k: u32,

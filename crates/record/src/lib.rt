@@ -1,4 +1,6 @@
 // One worker's record, by value: what it holds, and the record changed, each change handing the changed record back.
+#![tactic(auto)]
+
 ghost use Rattle.std.specs.Prelude.{◌≡◌};
 ghost use Rattle.choice.specs.Choice.{pick};
 ghost use Rattle.record.specs.Fields.{to, with_errand, with_wanted, with_making, with_size, with_start, with_held, with_dummy};
@@ -7,7 +9,7 @@ ghost use Rattle.record.specs.Worker.{fresh, idle, begun, coming_to, reading, ti
 use names::{errand, kind, place};
 
 // One worker's record: where it is in its operation, and what it remembers from the steps before.
-#[derive(Drop)]
+#[derive(Clone, Copy)]
 pub struct Worker {
     pub place: u32,
     pub errand: u32,
@@ -27,7 +29,7 @@ pub struct Worker {
 }
 
 // The nodes that a record holds: an insert's key node, and the dummy that is being made; 0 is none.
-#[derive(Drop)]
+#[derive(Clone, Copy)]
 pub struct Held {
     pub key: u32,
     pub dummy: u32,

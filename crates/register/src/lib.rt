@@ -1,4 +1,6 @@
 // The register by value: starting an operation, and one step of one worker.
+#![tactic(auto)]
+
 ghost use Rattle.std.specs.Prelude.{◌≡◌};
 ghost use Rattle.moves.specs.Moves.{decided};
 ghost use Rattle.words.specs.Words.{tables, left};
@@ -14,7 +16,7 @@ use record::Worker;
 use words::Lengths;
 
 // What a worker is called for.
-#[derive(Drop)]
+#[derive(Clone, Copy)]
 pub enum Call {
     // An operation of this kind on this key starts.
     Start { kind: u32, key: u32 },
@@ -23,7 +25,7 @@ pub enum Call {
 }
 
 // One worker's turn: its number, the register's header and its record, handed in.
-#[derive(Drop)]
+#[derive(Clone, Copy)]
 pub struct Turn {
     pub number: u32,
     pub header: Header,

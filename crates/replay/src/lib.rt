@@ -1,4 +1,6 @@
 // The run of a schedule: record after record moves the register, and the lines that it prints are laid in a lent buffer.
+#![tactic(auto)]
+
 ghost use Rattle.std.specs.Prelude.{◌≡◌};
 ghost use Rattle.words.specs.Words.{tables, left};
 ghost use Rattle.crew.specs.Crew.{crew};
@@ -50,7 +52,7 @@ pub const READ: usize = 65537;
 pub const PRINTED: usize = 589824;
 
 // Whose operation a record is about: the worker, and the kind and key that its record has.
-#[derive(Drop)]
+#[derive(Clone, Copy)]
 struct Operation {
     worker: u32,
     kind: u32,
@@ -58,7 +60,7 @@ struct Operation {
 }
 
 // What stands at an offset: the kind of a whole record, where the next one starts, and the number that refuses it where it stops the run.
-#[derive(Drop)]
+#[derive(Clone, Copy)]
 struct Stand {
     kind: u32,
     next: usize,

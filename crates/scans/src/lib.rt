@@ -1,4 +1,6 @@
 // The loops over the lent words: a free node, the sweep of an ended operation, and the clearing of a new register.
+#![tactic(auto)]
+
 ghost use Rattle.std.specs.Prelude.{◌≡◌, ◌-◌, ◌/◌, min};
 ghost use Rattle.scans.specs.Scans.{sweep, free_node, cleared};
 

@@ -1,4 +1,6 @@
 // Runs the schedule on standard input, and writes the lines that it prints.
+#![tactic(auto)]
+
 use libc::{STDIN_FILENO, STDOUT_FILENO};
 
 fn main() {

@@ -1,9 +1,11 @@
 // A schedule's bytes: records of one byte of kind and a body whose length the kind fixes. The work is done on a slice and an offset; a `Reader` keeps the two together.
+#![tactic(auto)]
+
 ghost use Rattle.std.specs.Prelude.{◌+◌, min, ◌≡◌};
 ghost use Rattle.script.specs.Script.{body_length, entry_at, end_of, body_at};
 
 // What stands at an offset.
-#[derive(Drop)]
+#[derive(Clone, Copy)]
 pub enum Entry {
     // The input ends at the offset or before it.
     End,
@@ -85,7 +87,7 @@ fn body_at<'a>(input: &'a [u8], at: usize) -> &'a [u8]
 }
 
 // The input and a place in it, kept together.
-#[derive(Drop)]
+#[derive(Clone, Copy)]
 pub struct Reader<'a> {
     pub input: &'a [u8],
     pub at: usize,

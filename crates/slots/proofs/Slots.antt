@@ -30,6 +30,7 @@ module _ {top : ℕ} {Slot : ℕ → ℕ → Type 0} {empty : ℕ} (slots : Slot
 
   whose : (k : ℕ) (b : k ≤ n) {s : ℕ} → In s (listed k b) → (j : ℕ) × (j ≤ k) × Slot j s
   unfolding listed
+  whose zero b {s = s} x = elim x [ ]
   whose (suc k) b (here e) = (suc k, omega arith, rw e (own (suc k) (omega arith) b).1)
   whose (suc k) b (there i) = let q = whose k (omega arith) i in (q.0, omega (arith, q.1), q.2)
 

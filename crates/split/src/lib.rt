@@ -1,4 +1,6 @@
 // Split order (figure 2): the split keys, by which the one list is kept in order.
+#![tactic(auto)]
+
 ghost use Rattle.std.specs.Prelude.{◌≡◌};
 ghost use Rattle.split.specs.Split.{reverse, regular, dummy};
 

@@ -1,1 +1,3 @@
 // What holds over every sequence of calls. Statements and proofs; no code.
+#![tactic(auto)]
+

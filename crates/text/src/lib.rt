@@ -1,4 +1,6 @@
 // A text laid in a lent buffer. Every function is total: what would stand past the buffer's end is not stored, and the place returned stops at that end.
+#![tactic(auto)]
+
 ghost use Rattle.std.specs.Prelude.{min, ◌≡◌, [], ◌∷◌};
 ghost use Rattle.text.specs.Text.{Laid};
 

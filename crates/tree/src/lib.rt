@@ -1,4 +1,6 @@
 // The tree of the buckets (figure 2, GET_PARENT): each bucket but 0 was split from its parent, and their number is a power of two.
+#![tactic(auto)]
+
 ghost use Rattle.std.specs.Prelude.{◌≡◌};
 ghost use Rattle.tree.specs.Tree.{parent_of, on_path, next_down, power_of_two, power_up_to};
 

@@ -1,4 +1,6 @@
 // Runs every schedule that its arguments name, and compares what is printed with the text that stands beside the schedule, byte for byte.
+#![tactic(auto)]
+
 ghost use Rattle.io.specs.Counts.{IsPrefixLen};
 
 use libc::STDOUT_FILENO;

@@ -1,4 +1,6 @@
 // The register as a library that C links, over plain words: any word is a word, where a caller's bool or struct could be none.
+#![tactic(auto)]
+
 ghost use Rattle.std.specs.Prelude.{◌≡◌, false, ◌+◌, ◌*◌, ◌≤◌, length};
 ghost use Rattle.names.specs.Names.{refuses};
 ghost use Rattle.words.specs.Words.{tables, left};
@@ -21,7 +23,7 @@ const RECORD: usize = 15;
 
 // What a call answers: the scope paper's number, and at an ended answer the operation's steps.
 #[repr(C)]
-#[derive(Drop)]
+#[derive(Clone, Copy)]
 pub struct Reply {
     pub answer: u32,
     pub steps: u32,

@@ -1,4 +1,6 @@
 // The words of the lent tables, by node and by bucket. Every function is total: past a table's end a word reads 0 and is not written, and so is node 0, which means nothing.
+#![tactic(auto)]
+
 ghost use Rattle.std.specs.Prelude.{◌≡◌};
 ghost use Rattle.words.specs.Words.{word, put, bucket, store};
 
@@ -19,7 +21,7 @@ pub const TAKEN: u32 = 2147483648;
 pub const LARGEST_SET: u32 = 65535;
 
 // How many words each lent table has.
-#[derive(Drop)]
+#[derive(Clone, Copy)]
 pub struct Lengths {
     pub nodes: usize,
     pub buckets: usize,

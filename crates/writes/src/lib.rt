@@ -1,4 +1,6 @@
 // A decision carried out: what a step's write leaves in the lent tables and in the header, and at an ended answer the operation closed.
+#![tactic(auto)]
+
 ghost use Rattle.std.specs.Prelude.{◌≡◌};
 ghost use Rattle.words.specs.Words.{tables, left, LINK, put, link_word, link_to};
 ghost use Rattle.acts.specs.Acts.{handed_back};
