@@ -1,5 +1,5 @@
 -- The worker's record: a fresh one, the idle one, the one that starts, changes of two fields or by a rule, and what a record holds.
-use Rattle.std.specs.Prelude.{ℕ, ◌+◌, ◌/◌, ◌%◌, Bool, false, not, ◌&&◌, leb, ltb, eqb}
+use Rattle.std.specs.Prelude.{ℕ, ◌+◌, ◌/◌, ◌%◌, Bool, false, not, ◌&&◌, ltb, eqb}
 use Rattle.choice.specs.Choice.{pick}
 use Rattle.names.specs.Names.{IDLE, I1, SZ, KEY, DUMMY, EXTRA, INSERT, CEILING}
 use Rattle.names.specs.Places.{searches, holds_key}

@@ -36,6 +36,7 @@ pub struct Held {
 }
 
 // The node n where it is held, and 0 where not.
+#[tactic(auto, unfolding(choice::specs::Choice::pick))]
 fn node_if(held: bool, n: u32) -> u32
     ensures { result ≡ pick held n 0 }
 {
@@ -46,6 +47,7 @@ fn node_if(held: bool, n: u32) -> u32
 }
 
 // One step more, up to the ceiling.
+#[tactic(auto, unfolding(choice::specs::Choice::pick, crate::specs::Worker::tick))]
 fn tick(steps: u32) -> u32
     ensures { result ≡ tick steps }
 {
@@ -87,6 +89,7 @@ impl Worker {
     }
 
     // The record as an operation starts: an insert at I1, find and delete at SZ.
+    #[tactic(auto, unfolding(choice::specs::Choice::pick, crate::specs::Worker::begun))]
     pub fn begun(kind: u32, key: u32) -> Worker
         ensures { result ≡ begun kind key }
     {
