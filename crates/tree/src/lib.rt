@@ -53,6 +53,7 @@ fn power_of_two(x: u32) -> bool
 }
 
 // x is a power of two from 2 to `most`.
+#[tactic(auto, unfolding(crate::specs::Tree::power_up_to))]
 pub fn power_up_to(most: u32, x: u32) -> bool
     ensures { result ≡ power_up_to most x }
 {
