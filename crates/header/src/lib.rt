@@ -91,6 +91,7 @@ impl Header {
     }
 
     // A limit of the scope paper is broken.
+    #[tactic(auto, unfolding(crate::specs::Header::limit_broken))]
     pub fn limit_broken(self) -> bool
         ensures { result ≡ limit_broken self }
     {
@@ -100,6 +101,7 @@ impl Header {
             | ((self.l < 1) | (8 < self.l))
     }
 
+    #[tactic(auto, unfolding(crate::specs::Header::size_broken))]
     fn size_broken(self) -> bool
         ensures { result ≡ size_broken self }
     {
@@ -107,6 +109,7 @@ impl Header {
     }
 
     // A word has no bit at 32 or above.
+    #[tactic(auto, unfolding(crate::specs::Header::busy_beyond))]
     fn busy_beyond(self) -> bool
         ensures { result ≡ busy_beyond self }
     {
@@ -117,6 +120,7 @@ impl Header {
     }
 
     // 12, the header's part.
+    #[tactic(auto, unfolding(crate::specs::Header::header_damaged))]
     pub fn damaged(self) -> bool
         ensures { result ≡ header_damaged self }
     {
@@ -124,6 +128,7 @@ impl Header {
     }
 
     // 11: a lent table has fewer than 3N node words or M bucket words.
+    #[tactic(auto, unfolding(crate::specs::Header::is_short))]
     pub fn short(self, lengths: Lengths) -> bool
         ensures { result ≡ is_short self lengths }
     {
@@ -131,6 +136,7 @@ impl Header {
     }
 
     // A worker or its record that there is not: 12, then 11 where there are too few records or words, then 13.
+    #[tactic(auto, unfolding(choice::specs::Choice::pick, crate::specs::Header::missing))]
     pub fn missing(self, few: bool, lengths: Lengths) -> Answer
         ensures { result ≡ missing self few lengths }
     {
@@ -144,6 +150,7 @@ impl Header {
     }
 
     // The load test of figure 5, lines I9 and I10: with its top bit set the old count is negative.
+    #[tactic(auto, unfolding(crate::specs::Header::doubles, choice::specs::Choice::pick))]
     pub fn doubles(self, size: u32, old: u32) -> bool
         ensures { result ≡ doubles self size old }
     {
