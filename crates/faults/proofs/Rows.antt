@@ -9,7 +9,7 @@ use lib.Dec.{ltb, eqb}
 use lib.ListN.{length}
 use borrow.Author.Tests.{eqb-true, eqb-false}
 use Rattle.choice.proofs.Exactly.{Tells}
-use Rattle.choice.proofs.Telling.{tells_as, tells_eq, tells_lt, tells_le, tells_or, tells_and, tells_not, tells_broken, Clears, clears_as, clears_eq, clears_lt, clears_not, clears_or, clears_and}
+use Rattle.choice.proofs.Telling.{tells_eq, tells_lt, tells_le, tells_or, tells_and, tells_not, tells_broken, Clears, clears_as, clears_eq, clears_lt, clears_not, clears_or, clears_and}
 use Rattle.tree.specs.Tree.{parent_of, on_path}
 use Rattle.tree.proofs.Laws.Path.{along_path, on_path_self, on_path_below}
 use Rattle.sets.specs.Sets.{bit, is_in}

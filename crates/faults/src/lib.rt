@@ -16,6 +16,7 @@ fn above(n: u64, x: u32) -> bool
 }
 
 // A busy record's kind is known too.
+#[tactic(auto, unfolding(crate::specs::Faults::unknown_name))]
 fn unknown_name(x: Worker) -> bool
     ensures { result ≡ unknown_name x }
 {
@@ -25,12 +26,14 @@ fn unknown_name(x: Worker) -> bool
         | ((x.kind == 0) & !(x.place == place::IDLE))
 }
 
+#[tactic(auto, unfolding(crate::specs::Faults::bucket_beyond))]
 fn bucket_beyond(x: Worker, h: Header) -> bool
     ensures { result ≡ bucket_beyond h x }
 {
     (h.m <= x.wanted) | (h.m <= x.making)
 }
 
+#[tactic(auto, unfolding(crate::specs::Faults::node_beyond))]
 fn node_beyond(x: Worker, n: u64) -> bool
     ensures { result ≡ node_beyond n x }
 {
@@ -42,6 +45,7 @@ fn node_beyond(x: Worker, n: u64) -> bool
         | above(n, x.dummy)
 }
 
+#[tactic(auto, unfolding(crate::specs::Faults::bit_disagrees))]
 fn bit_disagrees(x: Worker, h: Header, w: u32) -> bool
     ensures { result ≡ bit_disagrees h w x }
 {
@@ -49,6 +53,7 @@ fn bit_disagrees(x: Worker, h: Header, w: u32) -> bool
     (busy & (x.place == place::IDLE)) | (!busy & !(x.place == place::IDLE))
 }
 
+#[tactic(auto, unfolding(crate::specs::Faults::idle_not_zero))]
 fn idle_not_zero(x: Worker) -> bool
     ensures { result ≡ idle_not_zero x }
 {
