@@ -20,6 +20,7 @@ fn reverse(x: u32) -> u32
 }
 
 // A regular key's split key: the reversal of the key with its top bit set, so that it comes after its bucket's dummy.
+#[tactic(auto, unfolding(crate::specs::Split::regular))]
 pub fn regular_key(key: u32) -> u32
     ensures { result ≡ regular key }
 {
@@ -27,6 +28,7 @@ pub fn regular_key(key: u32) -> u32
 }
 
 // A dummy's split key: the reversal of its bucket's number, so that it comes before all keys of the bucket.
+#[tactic(auto, unfolding(crate::specs::Split::dummy))]
 pub fn dummy_key(bucket: u32) -> u32
     ensures { result ≡ dummy bucket }
 {
