@@ -50,6 +50,7 @@ struct Pieces {
 }
 
 // The word of a kind; nothing where it has none.
+#[tactic(auto, unfolding(crate::specs::Words::word_of_kind, choice::specs::Choice::pick))]
 fn word_of_kind(kind: u32) -> u8
     ensures { result ≡ word_of_kind kind }
 {
@@ -100,6 +101,7 @@ fn register_pieces(m: u32, k: u32, w: u32, l: u32) -> Pieces
 }
 
 // An operation that ended; nothing where the kind has no word or no operation ended.
+#[tactic(auto, unfolding(crate::specs::Pieces::ended_pieces, choice::specs::Choice::pick))]
 fn ended_pieces(worker: u32, kind: u32, key: u32, answer: Answer, steps: u32) -> Pieces
     ensures { result ≡ ended_pieces worker kind key answer steps }
 {
@@ -135,6 +137,7 @@ fn refused_pieces(number: u32, offset: usize) -> Pieces
 }
 
 // The end of a run. The count is signed: where its top bit is set, a minus and what it lacks to 2 ^ 32.
+#[tactic(auto, unfolding(crate::specs::Pieces::end_pieces, choice::specs::Choice::pick))]
 fn end_pieces(keys: u32, count: u32, size: u32) -> Pieces
     ensures { result ≡ end_pieces keys count size }
 {

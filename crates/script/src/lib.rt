@@ -18,6 +18,7 @@ pub enum Entry {
 }
 
 // How many bytes follow a byte of kind; 0 where there is no such kind.
+#[tactic(auto, unfolding(crate::specs::Script::body_length, choice::specs::Choice::pick))]
 fn body_length(kind: u8) -> usize
     ensures { result ≡ body_length kind }
 {
@@ -37,6 +38,7 @@ fn body_length(kind: u8) -> usize
 }
 
 // What stands at an offset of the input: the kind is looked at before the length.
+#[tactic(auto, unfolding(crate::specs::Script::entry_at, choice::specs::Choice::pick))]
 pub fn record_at(input: &[u8], at: usize) -> Entry
     ensures { result ≡ entry_at input.now at }
 {
