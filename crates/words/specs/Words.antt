@@ -1,6 +1,6 @@
 -- The lent tables: what their words mean, what is read of them and what is stored.
 -- A node is three words. Nodes are numbered from 1, and 0 means nothing: it reads 0 and a store to it does nothing.
-use Rattle.std.specs.Prelude.{ℕ, zero, suc, ◌+◌, ◌-◌, ◌*◌, ◌%◌, Bool, List, eqb, length, get_or, set}
+use Rattle.std.specs.Prelude.{ℕ, zero, suc, ◌+◌, ◌*◌, ◌%◌, Bool, List, eqb, length, get_or, set}
 use Rattle.choice.specs.Choice.{pick}
 use Rattle.words.specs.declared.Lengths.{Lengths}
 
