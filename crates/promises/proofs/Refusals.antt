@@ -71,6 +71,7 @@ unknown_kind kind =
     from (inl e) = (omega arith, omega arith)
     from (inr (inl e)) = (omega arith, omega arith)
     from (inr (inr (inl e))) = (omega arith, omega arith)
+    from (inr (inr (inr x))) = elim x [ ]
 
 -- what is answered is what the first row that holds says, and it refuses nothing where none holds
 pub prepare_gives :
