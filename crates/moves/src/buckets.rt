@@ -7,6 +7,7 @@ use acts::{Effect, Move};
 use names::{Answer, errand, kind, place};
 
 impl Seen {
+    #[tactic(auto, unfolding(choice::specs::Choice::pick, crate::specs::Moves::tb))]
     pub(super) fn tb(self) -> Move
         ensures { result ≡ tb self }
     {
@@ -24,6 +25,7 @@ impl Seen {
         )
     }
 
+    #[tactic(auto, unfolding(choice::specs::Choice::pick, crate::specs::Moves::b2))]
     pub(super) fn b2(self) -> Move
         ensures { result ≡ b2 self }
     {
@@ -37,6 +39,7 @@ impl Seen {
         on(x.searching_from(self.word).to(place::B4))
     }
 
+    #[tactic(auto, unfolding(choice::specs::Choice::pick, crate::specs::Moves::b4))]
     pub(super) fn b4(self) -> Move
         ensures { result ≡ b4 self }
     {
@@ -61,6 +64,7 @@ impl Seen {
         }
     }
 
+    #[tactic(auto, unfolding(choice::specs::Choice::pick, crate::specs::Moves::b8))]
     pub(super) fn b8(self) -> Move
         ensures { result ≡ b8 self }
     {

@@ -8,6 +8,7 @@ use names::{Answer, errand, place};
 
 impl Seen {
     // The held node's link is written first, so where prev is that node the swap finds what was just written.
+    #[tactic(auto, unfolding(choice::specs::Choice::pick, crate::specs::Moves::l2))]
     pub(super) fn l2(self) -> Move
         ensures { result ≡ l2 self }
     {
@@ -30,6 +31,7 @@ impl Seen {
     }
 
     // L2 done: a dummy goes to B8; an insert takes effect here.
+    #[tactic(auto, unfolding(choice::specs::Choice::pick, crate::specs::Moves::placed))]
     fn placed(self, held: u32) -> Move
         ensures { result ≡ placed self held }
     {
@@ -51,6 +53,7 @@ impl Seen {
         }
     }
 
+    #[tactic(auto, unfolding(choice::specs::Choice::pick, crate::specs::Moves::i1))]
     pub(super) fn i1(self) -> Move
         ensures { result ≡ i1 self }
     {
@@ -72,6 +75,7 @@ impl Seen {
         }
     }
 
+    #[tactic(auto, unfolding(crate::specs::Moves::sz))]
     pub(super) fn sz(self) -> Move
         ensures { result ≡ sz self }
     {
@@ -79,6 +83,7 @@ impl Seen {
         on(x.wanting(remainder(x.key, self.header.size)).to(place::TB))
     }
 
+    #[tactic(auto, unfolding(crate::specs::Moves::i8))]
     pub(super) fn i8(self) -> Move
         ensures { result ≡ i8 self }
     {
@@ -86,6 +91,7 @@ impl Seen {
         on(x.remembering(self.header.size).to(place::I9))
     }
 
+    #[tactic(auto, unfolding(choice::specs::Choice::pick, crate::specs::Moves::i9))]
     pub(super) fn i9(self) -> Move
         ensures { result ≡ i9 self }
     {
@@ -105,6 +111,7 @@ impl Seen {
         }
     }
 
+    #[tactic(auto, unfolding(choice::specs::Choice::pick, crate::specs::Moves::i10))]
     pub(super) fn i10(self) -> Move
         ensures { result ≡ i10 self }
     {
@@ -123,6 +130,7 @@ impl Seen {
         }
     }
 
+    #[tactic(auto, unfolding(choice::specs::Choice::pick, crate::specs::Moves::d4a))]
     pub(super) fn d4a(self) -> Move
         ensures { result ≡ d4a self }
     {
@@ -142,6 +150,7 @@ impl Seen {
         on(x.on_errand(errand::KEY).to(place::F1))
     }
 
+    #[tactic(auto, unfolding(choice::specs::Choice::pick, crate::specs::Moves::d4b))]
     pub(super) fn d4b(self) -> Move
         ensures { result ≡ d4b self }
     {
@@ -166,6 +175,7 @@ impl Seen {
         on(x.on_errand(errand::EXTRA).to(place::F1))
     }
 
+    #[tactic(auto, unfolding(crate::specs::Moves::d6))]
     pub(super) fn d6(self) -> Move
         ensures { result ≡ d6 self }
     {

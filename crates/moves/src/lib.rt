@@ -33,6 +33,7 @@ fn remainder(x: u32, d: u32) -> u32
 }
 
 // The link word is (0, n): unmarked, with n its next node. Compared in 64 bits, so that no number is cut.
+#[tactic(auto, unfolding(words::specs::Words::is_to))]
 fn is_to(link: u32, n: u32) -> bool
     ensures { result ≡ is_to link n }
 {
@@ -40,6 +41,7 @@ fn is_to(link: u32, n: u32) -> bool
 }
 
 // The wanted split key: a dummy's, or the key's.
+#[tactic(auto, unfolding(choice::specs::Choice::pick, crate::specs::Moves::want_of))]
 fn want_of(x: Worker) -> u32
     ensures { result ≡ want_of x }
 {
@@ -50,6 +52,7 @@ fn want_of(x: Worker) -> u32
 }
 
 // The node that L2 puts on the chain.
+#[tactic(auto, unfolding(choice::specs::Choice::pick, crate::specs::Moves::held_for))]
 fn held_for(x: Worker) -> u32
     ensures { result ≡ held_for x }
 {
@@ -70,6 +73,7 @@ fn on(worker: Worker) -> Move
 }
 
 // The search ended without the wanted split key.
+#[tactic(auto, unfolding(choice::specs::Choice::pick, crate::specs::Moves::not_found))]
 fn not_found(x: Worker, effect: Effect) -> Move
     ensures { result ≡ not_found x effect }
 {
@@ -92,6 +96,7 @@ fn not_found(x: Worker, effect: Effect) -> Move
 }
 
 // The search ended at cur: another worker's dummy is used in the place of the one held.
+#[tactic(auto, unfolding(choice::specs::Choice::pick, crate::specs::Moves::found))]
 fn found(x: Worker) -> Move
     ensures { result ≡ found x }
 {
@@ -111,6 +116,7 @@ fn found(x: Worker) -> Move
 }
 
 // The key is there: no to an insert, whose node the end frees; yes to a find; a delete goes to D4a.
+#[tactic(auto, unfolding(choice::specs::Choice::pick, crate::specs::Moves::found_key))]
 fn found_key(x: Worker) -> Move
     ensures { result ≡ found_key x }
 {
@@ -133,6 +139,7 @@ fn found_key(x: Worker) -> Move
 }
 
 // The search comes to cur, after prev: the end of the chain, or F2.
+#[tactic(auto, unfolding(choice::specs::Choice::pick, crate::specs::Moves::comes))]
 fn comes(x: Worker, prev: u32, cur: u32, effect: Effect) -> Move
     ensures { result ≡ comes x prev cur effect }
 {
@@ -148,12 +155,14 @@ fn comes(x: Worker, prev: u32, cur: u32, effect: Effect) -> Move
 
 impl Seen {
     // A link read above 2N + 1.
+    #[tactic(auto, unfolding(crate::specs::Moves::bad_link))]
     fn bad_link(self) -> bool
         ensures { result ≡ bad_link self }
     {
         self.header.nodes() * 2 + 1 < self.word as u64
     }
 
+    #[tactic(auto, unfolding(choice::specs::Choice::pick, crate::specs::Moves::f1))]
     fn f1(self) -> Move
         ensures { result ≡ f1 self }
     {
@@ -164,6 +173,7 @@ impl Seen {
         comes(x, x.start, self.word / 2, Effect::Nothing)
     }
 
+    #[tactic(auto, unfolding(choice::specs::Choice::pick, crate::specs::Moves::f2))]
     fn f2(self) -> Move
         ensures { result ≡ f2 self }
     {
@@ -174,6 +184,7 @@ impl Seen {
         on(x.reading(self.word).to(place::F3))
     }
 
+    #[tactic(auto, unfolding(choice::specs::Choice::pick, crate::specs::Moves::f3))]
     fn f3(self) -> Move
         ensures { result ≡ f3 self }
     {
@@ -188,6 +199,7 @@ impl Seen {
     }
 
     // prev's link was unmarked with next cur: cur was marked at F2, or its split key is compared.
+    #[tactic(auto, unfolding(choice::specs::Choice::pick, crate::specs::Moves::judged))]
     fn judged(self) -> Move
         ensures { result ≡ judged self }
     {
@@ -208,6 +220,7 @@ impl Seen {
         not_found(x, Effect::Nothing)
     }
 
+    #[tactic(auto, unfolding(choice::specs::Choice::pick, crate::specs::Moves::f4))]
     fn f4(self) -> Move
         ensures { result ≡ f4 self }
     {
@@ -231,6 +244,7 @@ impl Seen {
     }
 
     // One step's decision, at the record's place; a record at none of these is damaged.
+    #[tactic(auto, unfolding(choice::specs::Choice::pick, crate::specs::Moves::decided, crate::specs::Moves::decided_at))]
     pub fn decide(self) -> Move
         ensures { result ≡ decided self }
     {
