@@ -4,6 +4,7 @@ use mathlib.Core.Path.{◌≡◌, refl, sym, ap, ◌∙◌}
 use mathlib.Core.Logic.{◌≢◌, ◌⊎◌, inl, inr}
 use mathlib.Core.Bool.{false}
 use mathlib.Core.List.Memᴰ.{head as here}
+use mathlib.Core.List.Memᴰ.{tail as there}
 use mathlib.Core.List.{List, [], ◌∷◌, Memᴰ as In}
 use Prim.Native.Nat.{ℕ, zero, suc, ◌*◌, ◌≤◌, ◌<◌}
 use native.Mathlib.Omega.{arith}
@@ -114,6 +115,7 @@ module _ (l : Limits) (s : Shared) (f : First l s) (Ps : Pasts) where
 
   is_one : {n : ℕ} → In n (1 ∷ []) → n ≡ 1
   is_one (here e) = e
+  is_one {n = n} (there x) = elim x [ ]
 
   -- a node is the first or free
   cases : (n : ℕ) → n ≤ N → (n ≡ 1) ⊎ (standing m n ≡ 0)

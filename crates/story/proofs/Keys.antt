@@ -50,6 +50,7 @@ module _ (D N : ℕ) (c m : List ℕ) (g : Nodes D N c m) where
 
   of : (ks : List ℕ) (f : (k : ℕ) → In k ks → Registered m k) {n : ℕ} → In n (nodes ks f) → Of ks n
   unfolding nodes
+  of [] f {n = n} x = elim x [ ]
   of (k ∷ ks) f {n} (here e) = let r = f k (here refl) in record { whose = k; among = here refl; on = rw e (on_in m c g.walk r.on); has = rw e r.has }
   of (k ∷ ks) f (there i) = let o = of ks (λ j i. f j (there i)) i in record { whose = o.whose; among = there o.among; on = o.on; has = o.has }
 

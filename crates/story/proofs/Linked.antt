@@ -35,9 +35,9 @@ cut_after (here {x = n} {xs = ns} e) = n ∷ tail ns
 cut_after (there {x = n} i) = n ∷ cut_after i
 
 -- the keys on a walk are at or above its bound
-pub above : (m : List ℕ) (k a : ℕ) {x : ℕ} {ns : List ℕ} → In x ns → Walk m k a ns → k ≤ key m x
+pub above : (m : List ℕ) {x : ℕ} (k a : ℕ) {ns : List ℕ} → In x ns → Walk m k a ns → k ≤ key m x
 above m k a (here {x = n} e) w = rw e w.low
-above m k a {x} (there {x = n} {xs = ns} i) w =
+above m {x} k a (there {x = n} {xs = ns} i) w =
     let r : suc (key m n) ≤ key m x = above m (suc (key m n)) (next_in m n) i w.rest in
     omega arith
 
@@ -45,7 +45,7 @@ above m k a {x} (there {x = n} {xs = ns} i) w =
 pub once : (m : List ℕ) (k a n : ℕ) (ns : List ℕ) → Walk m k a (n ∷ ns) → In n ns → ⊥
 once m k a n ns w i = omega (arith, above m (suc (key m n)) (next_in m n) i w.rest)
 
-pub some_on : (m : List ℕ) (k a : ℕ) {x : ℕ} {ns : List ℕ} → In x ns → Walk m k a ns → 1 ≤ x
+pub some_on : (m : List ℕ) {x : ℕ} (k a : ℕ) {ns : List ℕ} → In x ns → Walk m k a ns → 1 ≤ x
 some_on m k a (here {x = n} e) w = rw e w.some
 some_on m k a (there {x = n} i) w = some_on m (suc (key m n)) (next_in m n) i w.rest
 
@@ -193,7 +193,7 @@ module _ (m : List ℕ) (p : ℕ) where
   between k₀ a k (there {x = n} i) (there j) w lo hi z = between (suc (key m n)) (next_in m n) k i j w.rest lo hi z
 
 -- two nodes of one walk with one key are one node
-pub same_key : (m : List ℕ) (k a : ℕ) {x y : ℕ} {ns : List ℕ} → In x ns → In y ns → Walk m k a ns → key m x ≡ key m y → x ≡ y
+pub same_key : (m : List ℕ) {x y : ℕ} (k a : ℕ) {ns : List ℕ} → In x ns → In y ns → Walk m k a ns → key m x ≡ key m y → x ≡ y
 same_key m k a (here p) (here q) w e = p ∙ sym q
 same_key m k a (here {x = n} p) (there j) w e = absurd (omega (arith, above m (suc (key m n)) (next_in m n) j w.rest, rw p at e))
 same_key m k a (there {x = n} i) (here q) w e = absurd (omega (arith, above m (suc (key m n)) (next_in m n) i w.rest, rw q at e))
@@ -205,12 +205,13 @@ module _ (m : List ℕ) where
   on_in c w first = root_on m 0 1 c (λ e. omega arith) w
   on_in c w (then {n = n} o ne) = succ_in m n 0 1 (on_in c w o) w ne
 
-  from_on : (k a : ℕ) {ns : List ℕ} {n : ℕ} → In n ns → Walk m k a ns → On m a → On m n
+  from_on : {n : ℕ} (k a : ℕ) {ns : List ℕ} → In n ns → Walk m k a ns → On m a → On m n
   from_on k a (here {x = x} e) w o = rw (e, ← w.is) o
   from_on k a (there {x = x} {xs = ns} i) w o =
       from_on (suc (key m x)) (next_in m x) i w.rest (then (rw w.is at o) (λ z. not_first (next_in m x) ns i z w.rest))
     where
       not_first : (a' : ℕ) (ms : List ℕ) {n : ℕ} → In n ms → a' ≡ 0 → Walk m (suc (key m x)) a' ms → ⊥
+      not_first a' [] j z u = elim j [ ]
       not_first a' (y ∷ ms) j z u = omega (arith, u.is, u.some)
 
   pub in_on : (c : List ℕ) → Walk m 0 1 c → {n : ℕ} → In n c → On m n

@@ -4,6 +4,7 @@ use mathlib.Core.Path.{◌≡◌, refl, sym, ap, ◌∙◌}
 use mathlib.Core.Logic.{◌≢◌, ◌⊎◌, inl, inr, ⊎_elim, ◌↔◌}
 use mathlib.Core.Bool.{Bool, true, false, ◌&&◌}
 use mathlib.Core.List.Memᴰ.{head as here}
+use mathlib.Core.List.Memᴰ.{tail as there}
 use mathlib.Core.List.{List, [], ◌∷◌, Memᴰ as In}
 use Prim.Native.Nat.{ℕ, zero, suc, ◌+◌, ◌*◌, ◌≤◌, ◌<◌}
 use native.Mathlib.Omega.{arith}
@@ -191,6 +192,7 @@ none_yet r k g =
   where
     is_one : {n : ℕ} → In n (1 ∷ []) → n ≡ 1
     is_one (here e) = e
+    is_one {n = n} (there x) = elim x [ ]
 
 pub ledger : (r : Trace) → Ledger (told r)
 ledger r zero k l = inr (none_yet r k, refl)
