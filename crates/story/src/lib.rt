@@ -1,3 +1,2 @@
 // What holds over every sequence of calls. Statements and proofs; no code.
 #![tactic(auto)]
-
