@@ -36,6 +36,7 @@ fn no_call(call: Call, most: u32) -> bool
 }
 
 // A worker past the table.
+#[tactic(auto, unfolding(choice::specs::Choice::pick, crate::specs::One::past_of))]
 fn past(header: Header, call: Call, most: u32, len: usize, nodes: usize, buckets: usize) -> Called
     ensures { result ≡ past_of header call most len (record { nodes = nodes; buckets = buckets }) }
 {
@@ -48,6 +49,7 @@ fn past(header: Header, call: Call, most: u32, len: usize, nodes: usize, buckets
 }
 
 // One call with the record in hand; where there are fewer records than W it is 12, then 11.
+#[tactic(auto, unfolding(choice::specs::Choice::pick, crate::specs::Crew::one_call))]
 fn one_call(turn: Turn, few: bool, call: Call, nodes: &mut [u32], buckets: &mut [u32]) -> Outcome
     ensures { left result (tables nodes.new buckets.new) ≡ one_call turn few call (tables nodes.old buckets.old) }
 {
@@ -153,6 +155,7 @@ pub fn serve(
 }
 
 // A prepared register wants W idle records, a refused one none.
+#[tactic(auto, unfolding(choice::specs::Choice::pick))]
 fn wants(w: u32, called: Called) -> Ready
     ensures { result ≡ wants w called }
 {
@@ -173,6 +176,7 @@ fn wants(w: u32, called: Called) -> Ready
 }
 
 // Preparing where there are `len` records: 10, then 11.
+#[tactic(auto, unfolding(choice::specs::Choice::pick, crate::specs::Crew::prepare_one))]
 fn prepare_one(
     limits: Limits,
     len: usize,

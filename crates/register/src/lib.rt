@@ -33,6 +33,7 @@ pub struct Turn {
 }
 
 // 17, 14: a start of an unknown kind, or on a key above the limit.
+#[tactic(auto, unfolding(choice::specs::Choice::pick, crate::specs::Parts::ask_verdict))]
 fn asked(call: Call) -> Verdict
     ensures { result ≡ ask_verdict call }
 {
@@ -62,6 +63,7 @@ impl Turn {
     }
 
     // 12, 11, 13: what a start and a step check first.
+    #[tactic(auto, unfolding(choice::specs::Choice::pick, crate::specs::Parts::call_verdict))]
     fn call_verdict(self, lengths: Lengths) -> Verdict
         ensures { result ≡ call_verdict self lengths }
     {
@@ -78,6 +80,7 @@ impl Turn {
     }
 
     // Then a start's 17 and 14, and 12: all that is checked before the record is asked whether it is idle.
+    #[tactic(auto, unfolding(choice::specs::Choice::pick, crate::specs::Parts::open_verdict))]
     fn verdict(self, call: Call, lengths: Lengths) -> Verdict
         ensures { result ≡ open_verdict self call lengths }
     {
@@ -96,6 +99,7 @@ impl Turn {
     }
 
     // 15, or the worker is busy, with a record that begins. Starting is private: it looks at the tables' lengths alone.
+    #[tactic(auto, unfolding(choice::specs::Choice::pick, crate::specs::Parts::busy_verdict))]
     fn begin(self, kind: u32, key: u32) -> Outcome
         ensures { result ≡ started_by self kind key (busy_verdict self) }
     {
@@ -108,6 +112,7 @@ impl Turn {
     }
 
     // The one shared word that the step reads at its place, or the node that it found free.
+    #[tactic(auto, unfolding(choice::specs::Choice::pick, crate::specs::Step::word_for, crate::specs::Step::word_at, crate::specs::Step::word_given, crate::specs::Step::asked_at))]
     fn word_for(self, nodes: &[u32], buckets: &[u32]) -> u32
         requires { Small self.header }
         ensures { result ≡ word_for self (tables nodes.now buckets.now) }
@@ -131,6 +136,7 @@ impl Turn {
     }
 
     // At F3 the split key of cur is read in the same step.
+    #[tactic(auto, unfolding(choice::specs::Choice::pick, crate::specs::Step::split_for))]
     fn split_for(self, nodes: &[u32]) -> u32
         ensures { result ≡ split_for self nodes.now }
     {
@@ -166,6 +172,7 @@ impl Turn {
     }
 
     // 16, or one shared access with the private work that follows: the decision is made, and carried out.
+    #[tactic(auto, unfolding(choice::specs::Choice::pick, crate::specs::Parts::idle_verdict))]
     fn act(self, nodes: &mut [u32], buckets: &mut [u32]) -> Outcome
         requires { Small self.header }
         ensures { left result (tables nodes.new buckets.new) ≡ stepped_by self (tables nodes.old buckets.old) (idle_verdict self) }

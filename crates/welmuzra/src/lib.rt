@@ -52,6 +52,7 @@ fn header_words(h: Header) -> [u32; HEADER]
 }
 
 // A mark that is neither 0 nor 1 makes no record: its place is an unknown one.
+#[tactic(auto, unfolding(choice::specs::Choice::pick, crate::specs::Words::place_read))]
 fn place_of(mark: u32, place: u32) -> u32
     ensures { result ≡ place_read mark place }
 {
@@ -88,6 +89,7 @@ fn record_at(records: &[u32], w: u32) -> Worker
 }
 
 // Record w goes into its place; past the table there is nothing to store.
+#[tactic(auto, unfolding(choice::specs::Choice::pick, crate::specs::Words::record_put))]
 fn store_record(records: &mut [u32], w: u32, x: Worker)
     ensures { records.new ≡ record_put records.old w (record_words x) }
 {
@@ -232,6 +234,7 @@ pub extern "C" fn welmuzra_start(
 }
 
 // What preparing hands back goes into the words, unless it is refused.
+#[tactic(auto, unfolding(choice::specs::Choice::pick, crate::specs::Calls::readied))]
 fn ready(header: &mut [u32; HEADER], records: &mut [u32], w: u32, called: Called) -> Reply
     requires { refuses called.answer ≡ false → w ≤ 16 }
     ensures { replied result header.new records.new ≡ readied w header.old records.old called }
