@@ -1,5 +1,5 @@
 -- Preparing: a table of refusals, and what a fresh register holds.
-use Rattle.std.specs.Prelude.{ℕ, ◌*◌, [], ◌∷◌}
+use Rattle.std.specs.Prelude.{◌*◌, [], ◌∷◌}
 use Rattle.choice.specs.Choice.{pick}
 use Rattle.choice.specs.Table.{first_of}
 use Rattle.words.specs.declared.Lengths.{Lengths}

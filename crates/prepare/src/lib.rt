@@ -28,6 +28,7 @@ impl Limits {
     }
 
     // 10, then 11.
+    #[tactic(auto, unfolding(crate::specs::Prepare::prepare_verdict, choice::specs::Choice::pick))]
     fn verdict(self, lengths: Lengths) -> Verdict
         ensures { result ≡ prepare_verdict self lengths }
     {
@@ -42,6 +43,7 @@ impl Limits {
     }
 
     // 10, then 11: there are fewer records than the W that is asked for.
+    #[tactic(auto, unfolding(crate::specs::Prepare::too_few_for, choice::specs::Choice::pick))]
     pub fn too_few(self) -> Answer
         ensures { result ≡ too_few_for self }
     {

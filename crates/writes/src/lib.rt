@@ -13,6 +13,7 @@ use names::Answer;
 use record::Worker;
 
 // A link as one word: twice the number of the next node, and the mark. What passes 32 bits is cut.
+#[tactic(auto, unfolding(words::specs::Words::link_word))]
 fn link_word(next: u32, mark: u32) -> u32
     ensures { result ≡ link_word next mark }
 {
@@ -20,6 +21,7 @@ fn link_word(next: u32, mark: u32) -> u32
 }
 
 // The link to node next, marked or not.
+#[tactic(auto, unfolding(words::specs::Words::link_to, choice::specs::Choice::pick))]
 fn link_to(next: u32, marked: bool) -> u32
     ensures { result ≡ link_to next marked }
 {
@@ -141,6 +143,7 @@ fn onward(worker: Worker, effect: Effect, header: Header) -> Outcome
 }
 
 // At an ended answer the nodes still held are free, and the worker's bit leaves each standing that is a set.
+#[tactic(auto, unfolding(crate::specs::Carry::closed_by))]
 fn close(last: u32, number: u32, worker: Worker, nodes: &mut [u32])
     ensures { nodes.new ≡ closed_by last number worker nodes.old }
 {
