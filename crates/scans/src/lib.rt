@@ -39,6 +39,7 @@ pub fn sweep(nodes: &mut [u32], n: u32, w: u32)
 }
 
 // The free node of those from node low to node high: the lowest; 0, which means nothing, where none is free.
+#[tactic(auto, using(crate::proofs::Free::free_here, crate::proofs::Free::free_on))]
 pub fn free_node(nodes: &[u32], low: u32, high: u32) -> u32
     ensures { result ≡ free_node nodes.now low high }
 {
