@@ -19,14 +19,13 @@ use Rattle.names.specs.declared.Answer.TheVariants.{Going as GoingOn}
 use Rattle.names.specs.declared.Verdict.{Verdict}
 use Rattle.names.specs.declared.Verdict.TheVariants.{Refused, Pass}
 use Rattle.header.specs.declared.Header.{Header}
-use Rattle.header.specs.Header.{limit_broken, header_damaged, is_short, missing}
+use Rattle.header.specs.Header.{limit_broken, missing}
 use Rattle.record.specs.declared.Worker.{Worker}
 use Rattle.record.specs.Worker.{idle}
 use Rattle.acts.specs.declared.Effect.{Effect}
 use Rattle.acts.specs.declared.Effect.TheVariants.{Nothing, TakeKey, TakeDummy, Free, Aim, Place, Mark, Unlink, Store, Count, Size}
 use Rattle.acts.specs.declared.Move.{Move}
 use Rattle.acts.specs.declared.Move.TheVariants.{Damaged as Hurt, Going, Ended}
-use Rattle.acts.specs.declared.Called.{Called}
 use Rattle.acts.specs.declared.Outcome.{Outcome}
 use Rattle.acts.specs.Acts.{answered, handed_back}
 use Rattle.moves.specs.Moves.{decided}
@@ -37,10 +36,10 @@ use Rattle.register.specs.declared.Call.{Call}
 use Rattle.register.specs.declared.Call.TheVariants.{Start, Step}
 use Rattle.register.specs.declared.Turn.{Turn}
 use Rattle.register.specs.Step.{refused_with, seen_by, carried}
-use Rattle.register.specs.Calls.{stepped_by, step_verdict, step_of, asked_of}
+use Rattle.register.specs.Calls.{stepped_by, step_verdict, step_of}
 use Rattle.register.proofs.Laws.{past_asked}
 use Rattle.crew.specs.declared.Ready.{Ready}
-use Rattle.crew.specs.Crew.{Crew, crew, turn_at, one_call, stored, call_at, most_at, serve_at, filled, wants, prepare_one, prepare_at}
+use Rattle.crew.specs.Crew.{Crew, crew, turn_at, one_call, stored, call_at, most_at, serve_at, filled, prepare_one, prepare_at}
 use Rattle.crew.specs.One.{turn, past_of, most_of, serve_one}
 
 -- a write leaves the limits and the busy set as they are

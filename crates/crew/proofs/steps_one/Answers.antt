@@ -1,16 +1,20 @@
-use Rattle.std.proofs.Common.{rules, ◌≡◌, ◌≤◌, length, ℕ, ◌+◌, ◌-◌, ◌*◌, ◌<◌, ◌/◌, ◌%◌, Bool, true, false, nat_eq, nat_lt, List, [], ◌∷◌, ◌++◌, slice_index_or, slice_set, bit_and, bit_or, Fits, w8, w32, w64, Bor, MutBor}
-use Rattle.words.specs.Words.{tables, left}
-use Rattle.acts.specs.Acts.{handed_back}
-use Rattle.names.specs.Names.{goes_on}
-use Rattle.names.specs.declared.Answer.TheVariants.{Going}
-use Rattle.crew.specs.Crew.{crew, filled, one_call, wants, prepare_one, serve_at, prepare_at}
-use Rattle.crew.specs.One.{turn, no_call, past_of, most_of, serve_one}
+-- A step more where it goes on, and none where it does not.
+use Rattle.std.proofs.Common.{sym, ap, ◌∙◌, ◌-◌}
+use Rattle.words.specs.Words.{tables, left as leaves}
+use Rattle.crew.specs.One.{most_of}
+use Rattle.crew.proofs.Laws.{most_on, most_over}
 use Rattle.crew.proofs.steps_one.Goals as goal
 
--- src/lib.rt:93:5
 pub loop-left-preserved : goal.loop-left-preserved
-loop-left-preserved c = ?
+loop-left-preserved c =
+    let l = c.loop-left in
+    let a = c.args in
+    let test = rw c.goes_on.ensures at c.loop-left-test.true in
+    ap (most_of a.w a.few (l.left - 1)) c.one_call-out.ensures ∙ sym (most_on a.w a.few l.left (leaves l.out (tables l.nodes l.buckets)) test) ∙ l.invariant
 
--- src/lib.rt:79:1
 pub returns : goal.returns
-returns c = ?
+returns c =
+    let l = c.loop-left in
+    let a = c.args in
+    let test = rw c.goes_on.ensures at c.loop-left-test.false in
+    sym (most_over a.w a.few l.left (leaves l.out (tables l.nodes l.buckets)) test) ∙ rw (← c.answered-called.ensures) l.invariant
