@@ -1,2 +1,1 @@
-mod Walk
 pub mod Same
