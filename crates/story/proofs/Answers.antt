@@ -17,7 +17,7 @@ use Rattle.names.specs.declared.Answer.{Answer}
 use Rattle.names.specs.declared.Answer.TheVariants.{Going, Yes, No, Limit, Short, Damaged, NoWorker, KeyAbove, IsBusy, IsIdle, NoKind, NoKeyNode, NoDummy}
 use Rattle.header.specs.Header.{nodes_of, dummies_of}
 use Rattle.record.specs.declared.Worker.{Worker}
-use Rattle.register.specs.Registered.{key, Registered}
+use Rattle.register.specs.Registered.{Registered}
 use Rattle.register.specs.Events.{Event, nothing, added, removed, Says, yes_insert, yes_delete, yes_find, no_insert, no_find, no_delete, took_effect}
 use Rattle.story.specs.Shared.{Call, start, step, Shared, worker_of}
 use Rattle.story.specs.Story.{AnswersAreFromThePaper, Ends, Operation, Own, OfAnOperation, TrueAtAMoment, OwnEvent, OwnEffect}

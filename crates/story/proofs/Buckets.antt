@@ -30,7 +30,7 @@ use Rattle.acts.specs.declared.Move.{Move}
 use Rattle.acts.specs.declared.Move.TheVariants.{Going}
 use Rattle.moves.specs.Moves.{tb, b2, b4, b8, sz}
 use Rattle.writes.specs.Writes.{taken}
-use Rattle.register.specs.Registered.{key, standing}
+use Rattle.register.specs.Registered.{standing}
 use Rattle.story.proofs.Linked.{some_on}
 use Rattle.story.proofs.Registers.{unmoved}
 use Rattle.story.proofs.Sane.{errand_in, wanted_in, making_in, start_in, dummy_in}

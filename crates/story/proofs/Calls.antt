@@ -8,8 +8,8 @@ use Prim.Native.Nat.{ℕ, zero, suc, ◌*◌, ◌≤◌, ◌<◌}
 use native.Mathlib.Omega.{arith}
 use native.Mathlib.Decide.{ℕ_discrete}
 use lib.Dec.{eqb, ltb, leb}
-use lib.ListN.{length, get_or, set}
-use borrow.Author.Tests.{eqb-true, eqb-false, le-ltb, leb-false, ltb-false, not-false}
+use lib.ListN.{get_or, set}
+use borrow.Author.Tests.{eqb-true, eqb-false, leb-false, ltb-false, not-false}
 use Rattle.choice.specs.Choice.{pick}
 use Rattle.choice.proofs.Cases.{by_bool}
 use Rattle.choice.proofs.Telling.{clears_or, clears_lt}
@@ -42,7 +42,7 @@ use Rattle.promises.proofs.Shape.{Final, effect_at}
 use Rattle.register.specs.Registered.{key, link}
 use Rattle.register.specs.Events.{Event, nothing, added, removed, written, taking, took_effect}
 use Rattle.story.specs.Shared.{Call, start, step, Shared, worker_of}
-use Rattle.story.specs.Trace.{Quiet, Keeps, turn_of, seen_at, all_there, Done, done_by, start_done, move_done, step_done, done, Called, Paused, Next, calls, pause}
+use Rattle.story.specs.Trace.{Quiet, Keeps, turn_of, seen_at, all_there, Done, done_by, start_done, move_done, step_done, done, Called, Next, calls, pause}
 use Rattle.story.proofs.Registers.{Change, unmoved}
 use Rattle.story.proofs.Facts.{Spot, i1, sz, tb, b2, b4, f1, f2, f3, f4, l2, b8, i8, i9, i10, d4a, d4b, d6, number, At, key_of, dummy_of, Busy, Fact}
 use Rattle.story.proofs.Stable as st

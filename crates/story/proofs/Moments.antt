@@ -19,7 +19,6 @@ use Rattle.names.specs.declared.Answer.{Answer}
 use Rattle.names.specs.declared.Answer.TheVariants.{Going, Yes}
 use Rattle.record.specs.declared.Worker.{Worker}
 use Rattle.record.specs.Worker.{idle, fresh, begun}
-use Rattle.register.specs.Registered.{key}
 use Rattle.register.specs.Events.{Event, nothing, added, removed, Says, yes_insert, yes_delete, yes_find, took_effect}
 use Rattle.story.specs.Shared.{Call, start, step, Shared, worker_of}
 use Rattle.story.specs.Trace.{First, Trace, state, answer_at, event_at}

@@ -21,7 +21,7 @@ use Rattle.scans.proofs.Laws.{free_node_lem}
 use Rattle.names.specs.Names.{SZ, F1, B8, I8, I9, D4B, D6, KEY, DUMMY, EXTRA, INSERT, FIND}
 use Rattle.names.specs.declared.Answer.TheVariants.{Yes, NoKeyNode}
 use Rattle.header.specs.declared.Header.{Header}
-use Rattle.header.specs.Header.{count_up, count_down, dummies_of, nodes_of, doubles}
+use Rattle.header.specs.Header.{count_up, count_down, dummies_of, nodes_of}
 use Rattle.header.specs.Rows.{PowerFromTo}
 use Rattle.header.proofs.Laws.{doubles_below}
 use Rattle.record.specs.declared.Worker.{Worker}

@@ -1,16 +1,15 @@
 -- Every run gives a trace, without pauses, and so what holds over every trace holds over every run.
 -- Assumes nothing.
 use mathlib.Core.Path.{◌≡◌, refl, ap, ◌∙◌}
-use mathlib.Core.Bool.{Bool, true, false}
+use mathlib.Core.Bool.{false}
 use mathlib.Core.List.{List}
-use Prim.Native.Nat.{ℕ, zero, suc, ◌*◌, ◌≤◌, ◌<◌}
+use Prim.Native.Nat.{ℕ, zero, suc, ◌*◌, ◌≤◌}
 use native.Mathlib.Omega.{arith}
 use lib.Dec.{ltb}
 use lib.ListN.{length, get_or, length-set}
 use borrow.Author.Tests.{le-ltb}
 use Rattle.choice.specs.Choice.{pick}
 use Rattle.choice.proofs.Cases.{both}
-use Rattle.words.specs.declared.Lengths.{Lengths}
 use Rattle.words.specs.Words.{Tables, lengths, Left, left, bucket}
 use Rattle.words.proofs.Laws.{store_length, store_same, store_other}
 use Rattle.names.specs.declared.Answer.{Answer}
@@ -31,7 +30,6 @@ use Rattle.acts.specs.declared.Move.TheVariants.{Damaged, Going as GoesOn, Ended
 use Rattle.moves.specs.Moves.{decided}
 use Rattle.writes.specs.Writes.{stored_by, stored_in}
 use Rattle.register.specs.declared.Turn.{Turn}
-use Rattle.register.specs.declared.Call.TheVariants.{Start, Step}
 use Rattle.register.specs.Step.{refused_with, asked_bucket, word_with, word_at, word_for, seen_by, seen_with, carried}
 use Rattle.register.specs.Calls.{start_verdict, started_by, start_of, step_verdict, stepped_by, step_of}
 use Rattle.register.specs.Events.{Event, nothing, taking, stepping}

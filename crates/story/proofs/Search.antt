@@ -36,7 +36,7 @@ use Rattle.story.proofs.Facts.{Safe, Held, Nodes, for_key, for_dummy, for_extra,
 use Rattle.story.proofs.Stable as st
 use Rattle.story.proofs.Core.{Pasts, Core}
 use Rattle.story.proofs.Effects.{same, live_on, safe_fits, safe_some, next_fits}
-use Rattle.story.proofs.Registers.{Same, unmoved, gap, on, dummy_is_even}
+use Rattle.story.proofs.Registers.{Same, unmoved, gap, dummy_is_even}
 use Rattle.story.proofs.Acts.{free_dummy, free_same, unlink_later, unlink_prev, unlink_same, unlinks}
 use Rattle.story.proofs.Steps.{took, Ctx, me, core, Went, Present, Absent, Stands, looks, Told, Finished, Good, over, past, upon, seen, sound_link, want_is, even_sort}
 

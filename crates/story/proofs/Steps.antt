@@ -2,7 +2,7 @@
 -- Assumes nothing.
 use mathlib.Core.Path.{◌≡◌, refl, sym, ◌∙◌}
 use mathlib.Core.Logic.{◌≢◌, ◌⊎◌, inr}
-use mathlib.Core.Bool.{Bool, true, false, ◌||◌, ◌&&◌}
+use mathlib.Core.Bool.{Bool, true, false, ◌||◌}
 use mathlib.Core.List.{List, Memᴰ as In}
 use Prim.Native.Nat.{ℕ, ◌+◌, ◌*◌, ◌%◌, ◌≤◌, ◌<◌}
 use native.Mathlib.Omega.{arith}
@@ -29,7 +29,7 @@ use Rattle.writes.specs.Writes.{nodes_after, header_after, stored_by}
 use Rattle.writes.specs.Carry.{closed_by}
 use Rattle.register.specs.Step.{closed}
 use Rattle.crew.specs.One.{turn}
-use Rattle.register.specs.Registered.{key, link, next_in, Registered}
+use Rattle.register.specs.Registered.{key, link, Registered}
 use Rattle.register.specs.Events.{Event, nothing, added, removed, written, took_effect}
 use Rattle.story.proofs.Registers.{Same, Change, unmoved}
 use Rattle.story.proofs.Sane.{Sane}

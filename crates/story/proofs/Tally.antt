@@ -8,7 +8,7 @@ use native.Mathlib.Omega.{arith}
 use lib.Dec.{eqb}
 use Rattle.choice.specs.Choice.{pick}
 use Rattle.choice.proofs.Cases.{by_eq, both}
-use Rattle.names.specs.Names.{F1, L2, B8, I8, I9, D4B, D6, KEY, DUMMY, EXTRA}
+use Rattle.names.specs.Names.{F1, L2, B8, I8, KEY, DUMMY, EXTRA}
 use Rattle.names.specs.Places.{insert_in, delete_in, searches}
 use Rattle.header.specs.declared.Header.{Header}
 use Rattle.header.specs.Header.{count_up, count_down}

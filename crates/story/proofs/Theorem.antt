@@ -22,7 +22,7 @@ use Rattle.register.specs.Registered.{key, link, On, Registered}
 use Rattle.register.specs.Events.{Event, nothing, added, removed, Allowed, Then, adds, removes}
 use Rattle.story.specs.Shared.{Call, start, step, Shared, worker_of}
 use Rattle.story.specs.Story.{tallied, NeverDamaged, DummiesSuffice, Ledger, StepLaw, BitsAgree}
-use Rattle.story.specs.Trace.{done, answer, Called, Next, calls, pause, Trace, state, answer_at, event_at, told}
+use Rattle.story.specs.Trace.{done, answer, Next, calls, pause, Trace, state, answer_at, event_at, told}
 use Rattle.story.proofs.Spans.{starts_of, began}
 use Rattle.story.proofs.Linked.{on_in, in_on}
 use Rattle.story.proofs.Stable.{Grows}
