@@ -1,11 +1,11 @@
-//! Says where the static library is: the folder that `rt staticlib welmuzra` writes it to, or the one in WELMUZRA_LIB.
+//! Says where the static library is: the folder that `rt lib` writes it to in crates/welmuzra, or the one in WELMUZRA_LIB.
 
 use std::path::PathBuf;
 
 fn main() {
     println!("cargo:rerun-if-env-changed=WELMUZRA_LIB");
     let folder = std::env::var_os("WELMUZRA_LIB").map_or_else(
-        || PathBuf::from(env!("CARGO_MANIFEST_DIR")).join("../../target/staticlib"),
+        || PathBuf::from(env!("CARGO_MANIFEST_DIR")).join("../../crates/welmuzra/out"),
         PathBuf::from,
     );
     println!(
