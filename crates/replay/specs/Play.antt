@@ -1,10 +1,9 @@
 -- One record of a schedule: the call that it asks for, and the line that the call prints.
-use Rattle.std.specs.Prelude.{ℕ, ◌^◌, List, [], ltb, leb, eqb, get_or, replicate}
+use Rattle.std.specs.Prelude.{ℕ, ◌^◌, List, [], leb, eqb, get_or, replicate}
 use Rattle.choice.specs.Choice.{pick}
 use Rattle.words.specs.Words.{Tables, Left}
 use Rattle.names.specs.Names.{number_of, refuses, goes_on}
 use Rattle.names.specs.declared.Answer.{Answer}
-use Rattle.names.specs.declared.Answer.TheVariants.{Going}
 use Rattle.header.specs.declared.Header.{Header}
 use Rattle.header.specs.Header.{fresh, outside}
 use Rattle.record.specs.declared.Worker.{Worker}

@@ -91,6 +91,7 @@ fn limits_of(body: &[u8]) -> Limits
 }
 
 // 00: the register that its body asks for, over lent words.
+#[tactic(auto, unfolding(crate::specs::Play::opened))]
 fn ready(body: &[u8], nodes: &mut [u32], buckets: &mut [u32]) -> Bank
     ensures { left (crew result.called result.workers) (tables nodes.new buckets.new) ≡ opened body.now (tables nodes.old buckets.old) }
 {
@@ -101,6 +102,7 @@ fn ready(body: &[u8], nodes: &mut [u32], buckets: &mut [u32]) -> Bank
 }
 
 // The number in a body: the key of a start, the one step of 04, the n steps of 05.
+#[tactic(auto, unfolding(choice::specs::Choice::pick, crate::specs::Play::number_in))]
 fn number_in(kind: u32, body: &[u8]) -> u32
     ensures { result ≡ number_in kind body.now }
 {
@@ -114,6 +116,7 @@ fn number_in(kind: u32, body: &[u8]) -> u32
 }
 
 // The call of a record that isn't 00: a start, or steps.
+#[tactic(auto, unfolding(choice::specs::Choice::pick, crate::specs::Play::call_of))]
 fn call_of(kind: u32, number: u32) -> Call
     ensures { result ≡ call_of kind number }
 {
@@ -124,6 +127,7 @@ fn call_of(kind: u32, number: u32) -> Call
 }
 
 // What the call leaves; steps are so many at most.
+#[tactic(auto, unfolding(crate::specs::Play::played))]
 fn play(
     workers: [Worker; MOST_WORKERS],
     header: Header,
