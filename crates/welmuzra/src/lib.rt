@@ -150,6 +150,7 @@ fn told(called: Called) -> Reply
 }
 
 // What a call hands back goes into the words, unless it is refused.
+#[tactic(auto, unfolding(choice::specs::Choice::pick, crate::specs::Calls::kept))]
 fn keep(header: &mut [u32; HEADER], records: &mut [u32], w: u32, out: Outcome) -> Reply
     ensures { replied result header.new records.new ≡ kept header.old records.old w out }
 {
@@ -250,6 +251,7 @@ fn ready(header: &mut [u32; HEADER], records: &mut [u32], w: u32, called: Called
 }
 
 // A register of M buckets, K key nodes, W workers and load L.
+#[tactic(auto, unfolding(choice::specs::Choice::pick, crate::specs::Calls::prepare_words))]
 #[unsafe(no_mangle)]
 pub extern "C" fn welmuzra_prepare(
     header: &mut [u32; HEADER],
