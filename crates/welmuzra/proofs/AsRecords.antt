@@ -21,7 +21,9 @@ use Rattle.words.specs.Words.{Tables, lengths, Left, left}
 use Rattle.acts.specs.declared.Called.{Called}
 use Rattle.acts.specs.declared.Outcome.{Outcome}
 use Rattle.acts.specs.Acts.{answered}
+use Rattle.names.specs.declared.Answer.TheVariants.{Limit, Short}
 use Rattle.names.specs.declared.Verdict.{Verdict}
+use Rattle.names.specs.declared.Verdict.TheVariants.{Pass, Refused}
 use Rattle.prepare.specs.Prepare.{fresh_header, prepare_verdict, too_few_for, prepared_by, prepared}
 use Rattle.header.specs.Header.{is_short}
 use Rattle.promises.specs.Unchanged as un
@@ -65,13 +67,26 @@ call_as_records h ws w c ts =
 abbrev Readied : Limits → Header → List Worker → Left Called → Type 0
 Readied l h ws k = left (readied l.w (header_words h) (packed ws) k.out) k.tables ≡ words_of (made ws (left (wants l.w k.out) k.tables))
 
+-- each way of a preparing by itself: refused with 10, refused with 11, or done
+limits_packed : (l : Limits) (h : Header) (ws : List Worker) (ts : Tables) → Readied l h ws (prepared_by l h ts (Refused Limit))
+unfolding readied filled pick
+limits_packed l h ws ts = refl
+
+short_packed : (l : Limits) (h : Header) (ws : List Worker) (ts : Tables) → Readied l h ws (prepared_by l h ts (Refused Short))
+unfolding readied filled pick
+short_packed l h ws ts = refl
+
+done_packed : (l : Limits) (h : Header) (ws : List Worker) (ts : Tables) → l.w ≤ length ws → Readied l h ws (prepared_by l h ts Pass)
+unfolding readied pick
+done_packed l h ws ts enough = rw (cleared_packed l.w ws enough)
+
 -- preparing is refused with 10 or 11, or done
 readied_packed : (l : Limits) (h : Header) (ws : List Worker) (ts : Tables) → l.w ≤ length ws → Readied l h ws (prepared l h ts)
-unfolding prepared prepare_verdict readied filled pick
+unfolding prepared prepare_verdict
 readied_packed l h ws ts enough =
-    by_bool (λ (v : Verdict). Readied l h ws (prepared_by l h ts v)) (limit_broken (fresh_header l)) (λ _. refl)
-    (λ _. by_bool (λ (v : Verdict). Readied l h ws (prepared_by l h ts v)) (is_short (fresh_header l) (lengths ts)) (λ _. refl)
-    (λ _. rw (cleared_packed l.w ws enough)))
+    let P : Verdict → Type 0 = λ v. Readied l h ws (prepared_by l h ts v) in
+    by_bool P (limit_broken (fresh_header l)) (λ _. limits_packed l h ws ts)
+    (λ _. by_bool P (is_short (fresh_header l) (lengths ts)) (λ _. short_packed l h ws ts) (λ _. done_packed l h ws ts enough))
 
 pub prepare_as_records : PrepareAsRecords
 unfolding prepare_words prepare_one filled
