@@ -1,12 +1,13 @@
 // Runs the schedule on standard input, and writes the lines that it prints.
 #![tactic(auto)]
 
-use libc::{STDIN_FILENO, STDOUT_FILENO};
+use std::io;
 
-fn main() {
-    let mut input = [0u8; replay::READ];
-    let read = io::read_full(STDIN_FILENO, &mut input);
+fn main(rt: HostRuntime) -> io::Result<()> {
+    let mut bytes = [0u8; replay::READ];
+    let (read, ended) = input::read_full(&mut rt.stdin(), &mut bytes);
+    ended?;
     let mut out = [0u8; replay::PRINTED];
-    let end = replay::run(&input[..read], &mut out);
-    io::write_all(STDOUT_FILENO, &out[..end]);
+    let end = replay::run(&bytes[..read], &mut out);
+    rt.write_all(&out[..end])
 }
