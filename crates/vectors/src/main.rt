@@ -26,7 +26,7 @@ fn tell_error(rt: &HostRuntime, name: &[u8], error: io::Error) {
     let _ = err.println(format_args!(": {error}"));
 }
 
-// Reads the file of a case, its name and an ending, to the start of a buffer; how much of it was read. Of a file that can't be opened that is nothing.
+// Reads the file of a case, its name and an ending, to the start of a buffer; how much of it was read, up to a read that fails. Of a file that can't be opened that is nothing.
 fn read_case(rt: &HostRuntime, name: &[u8], ending: &[u8], into: &mut [u8]) -> usize
     ensures { IsPrefixLen result into.new }
 {
@@ -35,10 +35,7 @@ fn read_case(rt: &HostRuntime, name: &[u8], ending: &[u8], into: &mut [u8]) -> u
     let end = text::put_text(&mut path, dot, ending);
     match open(rt, &path[..end]) {
         Ok(mut file) => {
-            let (read, ended) = input::read_full(&mut file, into);
-            if let Err(error) = ended {
-                tell_error(rt, name, error);
-            }
+            let (read, _ended) = input::read_full(&mut file, into);
             read
         }
         Err(error) => {
