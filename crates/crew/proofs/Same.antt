@@ -27,7 +27,7 @@ use Rattle.crew.specs.contracts.prepare as prepare
 use Rattle.crew.specs.contracts.serve as serve
 use Rattle.crew.specs.Crew.{Crew, crew, one_call, call_at, serve_at, prepare_at}
 
--- ---- what each walked contract says, read off the contract itself: it leaves lists that the definition names
+-- ---- what each contract says, read off the contract itself: it leaves lists that the definition names
 module _ {M : Type 1} {𝓤 : Ura M} (𝓛 : Logic 𝓤) (mem : Memory → SProp 𝓤) (run : Routine → Fun 𝓤) (κ κ₁ κ₂ : Lft) (x : MutBor (List Worker)) (x₁ x₂ : MutBor (List ℕ)) (header : Header) (r : Called) where
   abbrev Lists : Left Crew → List Worker × (List ℕ × List ℕ) → SProp 𝓤
   Lists l zs = fact 𝓤 (left (crew r zs.0) (tables zs.1.0 zs.1.1) ≡ l)

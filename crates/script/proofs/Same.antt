@@ -24,7 +24,7 @@ use Rattle.script.specs.contracts.body_of as body_of
 pub record_at_same : Determined 1 record-at-kinds.ps record-at-kinds.r record-at.Post
 record_at_same κs a x y e f p q = p ∙ sym q
 
--- ---- what each walked contract says of its result, read off the contract itself
+-- ---- what each contract says of its result, read off the contract itself
 module _ {M : Type 1} {𝓤 : Ura M} (𝓛 : Logic 𝓤) (mem : Memory → SProp 𝓤) (run : Routine → Fun 𝓤) (κ : Lft) where
   pub at_says : (s : Bor (List ℕ)) (n : ℕ) (r : Reader) → ent 𝓤 (ensured 𝓛 reader_at.ended (reader_at.clauses 𝓛 mem run) (κ, tt) (s, (n, tt)) tt r) (fact 𝓤 ((r.input ≡ s) × (r.at ≡ n)))
   at_says s n r = ex_e 𝓤 _ (λ ws. snd∗ 𝓤 (sem 𝓛 (lasts reader_at.ended (κ, tt) (s, (n, tt)) ws)) (fact 𝓤 ((r.input ≡ s) × (r.at ≡ n))))
