@@ -1,37 +1,38 @@
-// A text laid in a lent buffer. Every function is total: what would stand past the buffer's end is not stored, and the place returned stops at that end.
+// A text laid in a lent buffer. Every function is total: what would stand past the buffer's end is not stored, and the place where a text ends stops at that end.
 #![tactic(auto)]
 
-ghost use Rattle.std.specs.Prelude.{min, ◌≡◌, [], ◌∷◌};
-ghost use Rattle.text.specs.Text.{Laid};
+ghost use Rattle.std.specs.Prelude.{◌≡◌, take};
+ghost use Rattle.text.specs.Text.{written};
 
-// A place, or the end of a buffer of that length where that comes first.
-fn within(at: usize, length: usize) -> usize
-    ensures { result ≡ min at length }
-{
-    if at < length { at } else { length }
+// A lent buffer, and the place up to which it is written.
+#[derive(Drop)]
+pub struct Page<'a> {
+    pub buffer: &'a mut [u8],
+    pub end: usize,
 }
 
-// One byte.
-fn put_byte(out: &mut [u8], at: usize, byte: u8) -> usize
-    ensures { Laid out.old at (byte ∷ []) out.new result }
-{
-    if at < out.len() {
-        out[at] = byte;
-        at + 1
-    } else {
-        out.len()
+impl<'a> Page<'a> {
+    // A page that is written from the buffer's start.
+    pub fn new(buffer: &'a mut [u8]) -> Page<'a>
+        ensures { result ≡ record { buffer = buffer.entry; end = 0 } }
+    {
+        Page { buffer, end: 0 }
     }
-}
 
-// A text, byte by byte.
-pub fn put_text(out: &mut [u8], at: usize, text: &[u8]) -> usize
-    ensures { Laid out.old at text.now out.new result }
-{
-    let mut place = within(at, out.len());
-    let mut i = 0;
-    while i < text.len() {
-        place = put_byte(out, place, text[i]);
-        i += 1;
+    // Lays a text where the last one ended.
+    #[tactic(auto, using(crate::proofs::Laying::laid_stored), unfolding(crate::specs::Text::written))]
+    pub fn put(&mut self, text: &[u8])
+        ensures { self.new ≡ written self.old text.now }
+    {
+        let start = self.end.min(self.buffer.len());
+        let end = (start + text.len()).min(self.buffer.len());
+        self.buffer[start..end].copy_from_slice(&text[..end - start]);
+        self.end = end;
     }
-    place
+    // What is written.
+    pub fn text(&self) -> &[u8]
+        ensures { result.now ≡ take self.now.end self.now.buffer.now }
+    {
+        &self.buffer[..self.end.min(self.buffer.len())]
+    }
 }
