@@ -1,18 +1,14 @@
-// The lines that a schedule prints, laid in a lent buffer: each is a few words with numbers between them.
+// The lines that a schedule prints, laid on a page: each is words and numbers with one space between them.
 #![tactic(auto)]
 
-ghost use Rattle.std.specs.Prelude.{min, ◌≡◌, ◌++◌, get_or};
-ghost use Rattle.text.specs.Text.{Laid};
-ghost use Rattle.lines.specs.Decimal.{decimal};
-ghost use Rattle.lines.specs.Lines.{line_text};
-ghost use Rattle.lines.specs.Words.{STARTS, spelled, word_of_kind, word_of_answer};
-ghost use Rattle.lines.specs.Pieces.{register_pieces, ended_pieces, refused_pieces, end_pieces, pieces_of};
+ghost use Rattle.std.specs.Prelude.{◌≡◌, ◌∷◌, false, true, MatchOption};
+ghost use Rattle.names.specs.Names.{ends};
+ghost use Rattle.text.specs.Text.{written};
+ghost use Rattle.lines.specs.Decimal.{decimal, signed};
+ghost use Rattle.lines.specs.Lines.{kind_word, answer_word, kind_named, ended_line, line_text};
 
-use crate::word::{END, MINUS, NEWLINE, NOTHING, REFUSED, REGISTER, SPACE};
 use names::{Answer, kind};
-use text::put_text;
-
-mod word;
+use text::Page;
 
 // A line, by what it tells; numbers as the scope paper has them.
 #[derive(Clone, Copy)]
@@ -41,195 +37,124 @@ pub enum Line {
     },
 }
 
-// What a line is made of: the first so many of these numbers, each with its word before it, and the word after the last.
-#[derive(Clone, Copy)]
-struct Pieces {
-    words: [u8; 5],
-    numbers: [u64; 4],
-    count: usize,
-}
-
-// The word of a kind; nothing where it has none.
-#[tactic(auto, unfolding(crate::specs::Words::word_of_kind, choice::specs::Choice::pick))]
-fn word_of_kind(kind: u32) -> u8
-    ensures { result ≡ word_of_kind kind }
+// The word of a kind, where it has one.
+#[tactic(auto, unfolding(crate::specs::Lines::kind_word, choice::specs::Choice::pick))]
+fn word_of_kind(kind: u32) -> Option<&'static [u8]>
+    ensures { MatchOption result (kind_named kind ≡ false) (λ word. (kind_named kind ≡ true) × (word.now ≡ kind_word kind)) }
 {
-    if kind == kind::INSERT {
-        return word::INSERT;
+    match kind {
+        kind::INSERT => Some(b"insert"),
+        kind::FIND => Some(b"find"),
+        kind::DELETE => Some(b"delete"),
+        _ => None,
     }
-    if kind == kind::FIND {
-        return word::FIND;
-    }
-    if kind == kind::DELETE {
-        return word::DELETE;
-    }
-    NOTHING
 }
 
-// The word of an answer; nothing where it has none.
-fn word_of_answer(answer: Answer) -> u8
-    ensures { result ≡ word_of_answer answer }
+// The word of an answer, where it ends an operation.
+#[tactic(auto, unfolding(crate::specs::Lines::answer_word))]
+fn word_of_answer(answer: Answer) -> Option<&'static [u8]>
+    ensures { MatchOption result (ends answer ≡ false) (λ word. (ends answer ≡ true) × (word.now ≡ answer_word answer)) }
 {
     match answer {
-        Answer::Going => NOTHING,
-        Answer::Yes => word::YES,
-        Answer::No => word::NO,
-        Answer::Limit => NOTHING,
-        Answer::Short => NOTHING,
-        Answer::Damaged => NOTHING,
-        Answer::NoWorker => NOTHING,
-        Answer::KeyAbove => NOTHING,
-        Answer::IsBusy => NOTHING,
-        Answer::IsIdle => NOTHING,
-        Answer::NoKind => NOTHING,
-        Answer::NoKeyNode => word::FULL,
-        Answer::NoDummy => word::DUMMY,
+        Answer::Yes => Some(b"yes"),
+        Answer::No => Some(b"no"),
+        Answer::NoKeyNode => Some(b"full"),
+        Answer::NoDummy => Some(b"dummy"),
+        _ => None,
     }
 }
 
-// A register that was prepared.
-fn register_pieces(m: u32, k: u32, w: u32, l: u32) -> Pieces
-    ensures { result ≡ register_pieces m k w l }
+// A number in decimal, with no zero in front.
+#[tactic(auto, using(crate::proofs::Digits::fewest_decimal))]
+fn put_number(page: &mut Page, n: u64)
+    ensures { page.new ≡ written page.old (decimal n) }
 {
-    let words = [REGISTER, SPACE, SPACE, SPACE, NEWLINE];
-    let numbers = [m as u64, k as u64, w as u64, l as u64];
-    Pieces {
-        words: words,
-        numbers: numbers,
-        count: 4,
-    }
+    let mut digits = [0u8; 20];
+    let count = io::decimal(n, &mut digits);
+    page.put(&digits[..count]);
 }
 
-// An operation that ended; nothing where the kind has no word or no operation ended.
-#[tactic(auto, unfolding(crate::specs::Pieces::ended_pieces, choice::specs::Choice::pick))]
-fn ended_pieces(worker: u32, kind: u32, key: u32, answer: Answer, steps: u32) -> Pieces
-    ensures { result ≡ ended_pieces worker kind key answer steps }
+// A space, and the word after it.
+#[tactic(auto, using(text::proofs::Laying::written_on))]
+fn put_word(page: &mut Page, word: &[u8])
+    ensures { page.new ≡ written page.old (32 ∷ word.now) }
 {
-    let what = word_of_kind(kind);
-    let told = word_of_answer(answer);
-    let words = [NOTHING, what, told, NEWLINE, NOTHING];
-    let numbers = [worker as u64, key as u64, steps as u64, 0];
-    if (what == NOTHING) | !answer.ends() {
-        return Pieces {
-            words: words,
-            numbers: numbers,
-            count: 0,
-        };
-    }
-    Pieces {
-        words: words,
-        numbers: numbers,
-        count: 3,
-    }
+    page.put(b" ");
+    page.put(word);
 }
 
-// A refusal that does not end an operation.
-fn refused_pieces(number: u32, offset: usize) -> Pieces
-    ensures { result ≡ refused_pieces number offset }
+// A space, and the number after it.
+#[tactic(auto, using(text::proofs::Laying::written_on))]
+fn put_next(page: &mut Page, n: u64)
+    ensures { page.new ≡ written page.old (32 ∷ decimal n) }
 {
-    let words = [REFUSED, SPACE, NEWLINE, NOTHING, NOTHING];
-    let numbers = [number as u64, offset as u64, 0, 0];
-    Pieces {
-        words: words,
-        numbers: numbers,
-        count: 2,
-    }
+    page.put(b" ");
+    put_number(page, n);
 }
 
-// The end of a run. The count is signed: where its top bit is set, a minus and what it lacks to 2 ^ 32.
-#[tactic(auto, unfolding(crate::specs::Pieces::end_pieces, choice::specs::Choice::pick))]
-fn end_pieces(keys: u32, count: u32, size: u32) -> Pieces
-    ensures { result ≡ end_pieces keys count size }
+// A space, and the count after it, read as a signed number.
+#[tactic(auto, using(text::proofs::Laying::written_on), unfolding(crate::specs::Decimal::signed, choice::specs::Choice::pick))]
+fn put_signed(page: &mut Page, count: u32)
+    ensures { page.new ≡ written page.old (32 ∷ signed count) }
 {
-    if count < 2147483648 {
-        let words = [END, SPACE, SPACE, NEWLINE, NOTHING];
-        let numbers = [keys as u64, count as u64, size as u64, 0];
-        return Pieces {
-            words: words,
-            numbers: numbers,
-            count: 3,
-        };
+    let count = count.cast_signed();
+    page.put(b" ");
+    if count < 0 {
+        page.put(b"-");
     }
-    let words = [END, MINUS, SPACE, NEWLINE, NOTHING];
-    let numbers = [keys as u64, 4294967296 - (count as u64), size as u64, 0];
-    Pieces {
-        words: words,
-        numbers: numbers,
-        count: 3,
-    }
+    put_number(page, count.unsigned_abs().into());
 }
 
-// The pieces of a line.
-fn pieces_of(line: Line) -> Pieces
-    ensures { result ≡ pieces_of line }
+// The line of an operation that ended; nothing where the kind has no word or no operation ended.
+#[tactic(auto, using(text::proofs::Laying::written_on), unfolding(crate::specs::Lines::ended_line, choice::specs::Choice::pick))]
+fn put_ended(page: &mut Page, worker: u32, kind: u32, key: u32, answer: Answer, steps: u32)
+    ensures { page.new ≡ written page.old (ended_line worker kind key answer steps) }
+{
+    let (Some(what), Some(told)) = (word_of_kind(kind), word_of_answer(answer)) else {
+        // Nothing is laid as any text is: an end past the buffer comes back to the buffer's end.
+        return page.put(b"");
+    };
+    put_number(page, worker.into());
+    put_word(page, what);
+    put_next(page, key.into());
+    put_word(page, told);
+    put_next(page, steps.into());
+    page.put(b"\n");
+}
+
+// A line. This is no `Display`, since a formatter promises its text only where it returns Ok, and a line is always laid.
+#[tactic(auto, using(text::proofs::Laying::written_on), unfolding(crate::specs::Lines::register_line, crate::specs::Lines::refused_line, crate::specs::Lines::end_line))]
+pub fn put_line(page: &mut Page, line: Line)
+    ensures { page.new ≡ written page.old (line_text line) }
 {
     match line {
-        Line::Register { m, k, w, l } => register_pieces(m, k, w, l),
+        Line::Register { m, k, w, l } => {
+            page.put(b"register");
+            put_next(page, m.into());
+            put_next(page, k.into());
+            put_next(page, w.into());
+            put_next(page, l.into());
+            page.put(b"\n");
+        }
         Line::Ended {
             worker,
             kind,
             key,
             answer,
             steps,
-        } => ended_pieces(worker, kind, key, answer, steps),
-        Line::Refused { number, offset } => refused_pieces(number, offset),
-        Line::End { keys, count, size } => end_pieces(keys, count, size),
+        } => put_ended(page, worker, kind, key, answer, steps),
+        Line::Refused { number, offset } => {
+            page.put(b"refused");
+            put_next(page, number.into());
+            put_next(page, offset as u64);
+            page.put(b"\n");
+        }
+        Line::End { keys, count, size } => {
+            page.put(b"end");
+            put_next(page, keys.into());
+            put_signed(page, count);
+            put_next(page, size.into());
+            page.put(b"\n");
+        }
     }
-}
-
-// The lesser of two numbers.
-fn lesser(a: usize, b: usize) -> usize
-    ensures { result ≡ min a b }
-{
-    if a < b { a } else { b }
-}
-
-// Where a word starts in the text of all the words; 0 where there is no such word.
-fn start_of(word: usize) -> usize
-    ensures { result ≡ get_or STARTS word 0 }
-{
-    let starts = [0, 0, 9, 17, 21, 22, 24, 32, 38, 46, 51, 55, 61, 68, 69];
-    if word < 15 { starts[word] } else { 0 }
-}
-
-// One word, cut out of the text in which all of them stand side by side.
-fn put_word(out: &mut [u8], at: usize, word: u8) -> usize
-    ensures { Laid out.old at (spelled word) out.new result }
-{
-    let words = *b"register refused end   - insert  find  delete  yes  no  full  dummy \n";
-    let end = lesser(start_of((word as usize) + 1), 69);
-    let start = lesser(start_of(word as usize), end);
-    put_text(out, at, &words[start..end])
-}
-
-// A number in decimal, with no zero in front.
-fn put_number(out: &mut [u8], at: usize, n: u64) -> usize
-    ensures { Laid out.old at (decimal n) out.new result }
-{
-    let mut digits = [0u8; 20];
-    let count = io::decimal(n, &mut digits);
-    put_text(out, at, &digits[..count])
-}
-
-// A word, and the number right after it.
-fn put_piece(out: &mut [u8], at: usize, word: u8, n: u64) -> usize
-    ensures { Laid out.old at (spelled word ++ decimal n) out.new result }
-{
-    let place = put_word(out, at, word);
-    put_number(out, place, n)
-}
-
-// A line, number by number, and the word after the last.
-pub fn put_line(out: &mut [u8], at: usize, line: Line) -> usize
-    ensures { Laid out.old at (line_text line) out.new result }
-{
-    let pieces = pieces_of(line);
-    let count = pieces.count;
-    let mut place = at;
-    let mut i = 0;
-    while i < count {
-        place = put_piece(out, place, pieces.words[i], pieces.numbers[i]);
-        i += 1;
-    }
-    put_word(out, place, pieces.words[count])
 }
