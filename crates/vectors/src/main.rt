@@ -7,6 +7,7 @@ use std::env::FillError;
 use std::fs::File;
 use std::rt::Env;
 use std::{fs, io, str};
+use text::Page;
 
 // The bytes that are kept of an argument and of a path: no file has a longer one.
 const PATH: usize = 4096;
@@ -31,9 +32,10 @@ fn read_case(rt: &HostRuntime, name: &[u8], ending: &[u8], into: &mut [u8]) -> u
     ensures { IsPrefixLen result into.new }
 {
     let mut path = [0u8; PATH];
-    let dot = text::put_text(&mut path, 0, name);
-    let end = text::put_text(&mut path, dot, ending);
-    match open(rt, &path[..end]) {
+    let mut page = Page::new(&mut path);
+    page.put(name);
+    page.put(ending);
+    match open(rt, page.text()) {
         Ok(mut file) => {
             let (read, _ended) = input::read_full(&mut file, into);
             read
