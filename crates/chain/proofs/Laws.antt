@@ -1,6 +1,6 @@
 -- The walk is taken apart turn by turn: one node more is counted, and the rest is the walk from the next.
 -- Assumes nothing.
-use mathlib.Core.Path.{◌≡◌, refl, ◌∙◌}
+use mathlib.Core.Path.{◌≡◌, refl}
 use mathlib.Core.Bool.{Bool, true, false}
 use mathlib.Core.List.{List}
 use Prim.Native.Nat.{ℕ, zero, suc, ◌+◌, ◌-◌, ◌/◌, ◌≤◌, ◌<◌}
@@ -46,3 +46,5 @@ keys_le ns (suc left) (suc n) = omega (arith, keys_suc ns left (suc n) (λ e. om
     byte_le : (t : Bool) → bool_byte t ≤ 1
     byte_le true = omega arith
     byte_le false = omega arith
+
+pub ruleset counting = (keys_none, keys_end, keys_turn, keys_le)

@@ -15,7 +15,7 @@ fn is_key(nodes: &[u32], n: u32) -> bool
 }
 
 // How many keys are registered on the chain from node n, followed for at most so many nodes: a chain of foreign words may not end.
-#[tactic(auto, using(crate::proofs::Laws::keys_none, crate::proofs::Laws::keys_end, crate::proofs::Laws::keys_turn, crate::proofs::Laws::keys_le))]
+#[tactic(auto, using(crate::proofs::Laws::counting))]
 pub fn keys_from(nodes: &[u32], most: u32, n: u32) -> u32
     ensures { result ≡ keys_from nodes.now most n }
 {

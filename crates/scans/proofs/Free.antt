@@ -48,6 +48,8 @@ pub free_past : (ns : List ℕ) (n high : ℕ) → high < n → free_node ns n h
 unfolding free_node
 free_past ns n high h = let e : high - (n - 1) ≡ 0 = omega arith in rw e (free_end ns (n - 1))
 
+pub ruleset looking = (free_first, free_here, free_on, free_past)
+
 -- the node that is found: it is one of those looked through, it is free, and no node before it is
 pub record Found (ns : List ℕ) (after last n : ℕ) : Type 0 where
   pub low : after < n

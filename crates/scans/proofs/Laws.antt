@@ -2,15 +2,14 @@
 -- Assumes nothing.
 use mathlib.Core.Path.{◌≡◌, refl, sym, ap, ◌∙◌}
 use mathlib.Core.Logic.{◌≢◌, ⊎_elim}
-use mathlib.Core.Bool.{Bool, true, false, false≢true, ◌&&◌}
 use mathlib.Core.List.{List, [], ◌∷◌, ◌++◌}
 use Prim.Native.Nat.{ℕ, zero, suc, ◌+◌, ◌-◌, ◌*◌, ◌/◌, ◌≤◌, ◌<◌, min}
-use native.Mathlib.Nat.{mul_comm, add-zero, add-suc}
+use native.Mathlib.Nat.{add-zero, add-suc}
 use native.Mathlib.Numerals.{add-one}
 use native.Mathlib.Decide.{ℕ_discrete}
 use native.Mathlib.Omega.{arith}
-use borrow.Author.Tests.{le-leb, lt-leb, lt-ltb, leb-true, leb-false}
-use lib.Dec.{leb, ltb}
+use borrow.Author.Tests.{le-leb, lt-leb}
+use lib.Dec.{leb}
 use lib.ListN.{length, get_or, set, drop, replicate}
 use lib.Seq.{get_or-set_other, set-get_or, set_out}
 use Rattle.std.proofs.lemmas.Bool.{cases_lt}
@@ -87,6 +86,8 @@ sweep_lent w n ns =
     (λ h. let f : m ≡ n = omega (arith, h) in rw f refl)
     (λ h. ap (λ (k : ℕ). sweep w k ns) (sym e) ∙ sweep_stop w m (n - m) ns (omega (arith, h)))
     (cases_lt n (length ns / 3))
+
+pub ruleset sweeping = (sweep_none, sweep_drops, sweep_stays, sweep_lent)
 
 -- a word that is no standing of the nodes 1 to n stays
 pub sweep_index : (w n : ℕ) (ns : List ℕ) (k : ℕ) → ((i : ℕ) → i < n → k ≢ 3 * i + 2) → get_or (sweep w n ns) k 0 ≡ get_or ns k 0

@@ -5,7 +5,7 @@ ghost use Rattle.std.specs.Prelude.{◌≡◌};
 ghost use Rattle.scans.specs.Scans.{sweep, free_node, cleared};
 
 // Worker w is waited for no more at nodes 1 to n: each standing there that is a set loses w. The empty set and a taken node stay unwritten.
-#[tactic(auto, using(crate::proofs::Laws::sweep_none, crate::proofs::Laws::sweep_drops, crate::proofs::Laws::sweep_stays, crate::proofs::Laws::sweep_lent))]
+#[tactic(auto, using(crate::proofs::Laws::sweeping))]
 pub fn sweep(nodes: &mut [u32], n: u32, w: u32)
     ensures { nodes.new ≡ sweep w n nodes.old }
 {
@@ -18,7 +18,7 @@ pub fn sweep(nodes: &mut [u32], n: u32, w: u32)
 }
 
 // The free node of those from node low to node high: the lowest; 0, which means nothing, where none is free.
-#[tactic(auto, using(crate::proofs::Free::free_first, crate::proofs::Free::free_here, crate::proofs::Free::free_on, crate::proofs::Free::free_past))]
+#[tactic(auto, using(crate::proofs::Free::looking))]
 pub fn free_node(nodes: &[u32], low: u32, high: u32) -> u32
     ensures { result ≡ free_node nodes.now low high }
 {

@@ -5,6 +5,7 @@ ghost use Rattle.std.specs.Prelude.{◌≡◌};
 ghost use Rattle.tree.specs.Tree.{parent_of, on_path, next_down, power_up_to};
 
 // A bucket's parent, the bucket that it was split from: its number with the top set bit cleared.
+#[tactic(auto, using(crate::proofs::Laws::parents), unfolding(crate::specs::Tree::parent_of))]
 pub fn parent(bucket: u32) -> u32
     ensures { result ≡ parent_of bucket }
 {
@@ -16,6 +17,7 @@ pub fn parent(bucket: u32) -> u32
 }
 
 // Is the ancestor on the path from the bucket to bucket 0, whose dummies are made before the bucket's own?
+#[tactic(auto, using(crate::proofs::Laws::paths))]
 pub fn on_path(bucket: u32, ancestor: u32) -> bool
     ensures { result ≡ on_path bucket ancestor }
 {
@@ -29,6 +31,7 @@ pub fn on_path(bucket: u32, ancestor: u32) -> bool
 }
 
 // The bucket just below `making` on the path from the bucket to 0, whose dummy is made next; 0 where there is none.
+#[tactic(auto, using(crate::proofs::Laws::downs))]
 pub fn next_down(bucket: u32, making: u32) -> u32
     ensures { result ≡ next_down bucket making }
 {
