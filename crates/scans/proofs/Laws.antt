@@ -156,10 +156,6 @@ pub cleared_none : (ws : List ℕ) → cleared 0 ws ≡ ws
 unfolding cleared
 cleared_none ws = refl
 
-pub cleared_suc : (k : ℕ) (ws : List ℕ) → cleared (k + 1) ws ≡ store (cleared k ws) k 0
-unfolding cleared
-cleared_suc k ws = rw (add-one k)
-
 pub cleared_length : (count : ℕ) (ws : List ℕ) → length (cleared count ws) ≡ length ws
 unfolding cleared
 cleared_length zero ws = refl
