@@ -1,18 +1,20 @@
 -- A loop is taken apart turn by turn: what one more turn does is one store, and a law of the words says what that leaves.
 -- Assumes nothing.
 use mathlib.Core.Path.{◌≡◌, refl, sym, ap, ◌∙◌}
-use mathlib.Core.Logic.{◌≢◌}
-use mathlib.Core.Bool.{Bool, true, false, false≢true, ◌&&◌}
-use mathlib.Core.List.{List, [], ◌∷◌}
+use mathlib.Core.Logic.{◌≢◌, ⊎_elim}
+use mathlib.Core.List.{List, [], ◌∷◌, ◌++◌}
 use Prim.Native.Nat.{ℕ, zero, suc, ◌+◌, ◌-◌, ◌*◌, ◌/◌, ◌≤◌, ◌<◌, min}
-use native.Mathlib.Nat.{mul_comm, add-zero, add-suc}
+use native.Mathlib.Nat.{add-zero, add-suc}
 use native.Mathlib.Numerals.{add-one}
 use native.Mathlib.Decide.{ℕ_discrete}
 use native.Mathlib.Omega.{arith}
-use borrow.Author.Tests.{le-leb, lt-leb, lt-ltb, leb-true, leb-false}
-use lib.Dec.{leb, ltb}
-use lib.ListN.{length, get_or, set}
+use borrow.Author.Tests.{le-leb, lt-leb}
+use lib.Dec.{leb}
+use lib.ListN.{length, get_or, set, drop, replicate}
 use lib.Seq.{get_or-set_other, set-get_or, set_out}
+use Rattle.std.proofs.lemmas.Bool.{cases_lt}
+use Rattle.std.proofs.lemmas.Grind.{same_number_lists}
+use Rattle.std.proofs.lemmas.List.{length-append, length-drop, length-replicate, get_or-replicate, get_or-drop, get_or_append_left, get_or-append_right}
 use Rattle.choice.proofs.Auto.{pick_true, pick_false}
 use Rattle.choice.proofs.Cases.{both}
 use Rattle.sets.specs.Sets.{dropped}
@@ -34,6 +36,10 @@ leave_taken w s h = pick_false (leb s LARGEST_SET) (dropped w s) s (lt-leb s LAR
 pub leave_zero : (w : ℕ) → leave w 0 ≡ 0
 leave_zero w = leave_set w 0 (omega arith) ∙ dropped_zero w
 
+pub leave_stays : (w s : ℕ) → (1 ≤ s → s ≤ LARGEST_SET → ⊥) → leave w s ≡ s
+leave_stays w zero other = leave_zero w
+leave_stays w (suc s) other = leave_taken w (suc s) (omega (arith, other))
+
 pub leave_le : (w s : ℕ) → leave w s ≤ s
 unfolding leave
 leave_le w s = both (λ (x : ℕ). x ≤ s) (leb s LARGEST_SET) (dropped_le w s) (omega arith)
@@ -43,43 +49,20 @@ pub sweep_none : (w : ℕ) (ns : List ℕ) → sweep w 0 ns ≡ ns
 unfolding sweep
 sweep_none w ns = refl
 
-pub sweep_suc : (w n : ℕ) (ns : List ℕ) → sweep w (n + 1) ns ≡ put (sweep w n ns) (n + 1) STANDING (leave w (word (sweep w n ns) (n + 1) STANDING))
-unfolding sweep
-sweep_suc w n ns = rw (add-one n)
+-- one turn: a set that is not empty loses the worker, and any other standing stays
+module _ (w i : ℕ) (ns : List ℕ) where
+  abbrev read : ℕ
+  read = get_or (sweep w i ns) (3 * i + 2) 0
 
--- one turn: node n + 1 is read, its standing t without the worker is stored
-pub sweep_turn : (w n : ℕ) (ns ms : List ℕ) (s t : ℕ) → ms ≡ sweep w n ns → s ≡ word ms (n + 1) STANDING → t ≡ leave w s → put ms (n + 1) STANDING t ≡ sweep w (n + 1) ns
-sweep_turn w n ns ms s t em es et = rw (et, es, em, sweep_suc w n ns)
+  turn : (s : ℕ) → leave w read ≡ s → sweep w (i + 1) ns ≡ set (sweep w i ns) (3 * i + 2) s
+  unfolding sweep put word
+  turn s e = rw (add-one i) (ap (set (sweep w i ns) (3 * i + 2)) e)
 
--- a standing that is no set, or the empty one, stays; another set loses the worker
-pub leave_stays : (w s : ℕ) → ltb 0 s && leb s LARGEST_SET ≡ false → leave w s ≡ s
-unfolding leave
-leave_stays w zero e = leave_zero w
-leave_stays w (suc s) e = pick_false _ _ _ (rw (lt-ltb 0 (suc s) (omega arith)) at e)
+  pub sweep_drops : 1 ≤ read → read ≤ LARGEST_SET → sweep w (i + 1) ns ≡ set (sweep w i ns) (3 * i + 2) (dropped w read)
+  sweep_drops a b = turn (dropped w read) (leave_set w read b)
 
-pub leave_drops : (w s : ℕ) → ltb 0 s && leb s LARGEST_SET ≡ true → leave w s ≡ dropped w s
-unfolding leave
-leave_drops w zero e = absurd (false≢true e)
-leave_drops w (suc s) e = pick_true _ _ _ (rw (lt-ltb 0 (suc s) (omega arith)) at e)
-
--- one turn by index: the standing of node i + 1 is word 3 i + 2
-module _ (w i : ℕ) (ns ms : List ℕ) (em : ms ≡ sweep w i ns) where
-  abbrev at : ℕ
-  at = i * 3 + 2
-
-  standing_at : get_or ms at 0 ≡ word ms (i + 1) STANDING
-  unfolding word
-  standing_at = rw (add-one i, mul_comm i 3)
-
-  put_at_index : (v : ℕ) → put ms (i + 1) STANDING v ≡ set ms at v
-  unfolding put
-  put_at_index v = rw (add-one i, mul_comm i 3)
-
-  pub turn_drops : ltb 0 (get_or ms at 0) && leb (get_or ms at 0) LARGEST_SET ≡ true → set ms at (dropped w (get_or ms at 0)) ≡ sweep w (i + 1) ns
-  turn_drops t = sym (put_at_index _) ∙ sweep_turn w i ns ms (get_or ms at 0) (dropped w (get_or ms at 0)) em standing_at (sym (leave_drops w _ t))
-
-  pub turn_stays : ltb 0 (get_or ms at 0) && leb (get_or ms at 0) LARGEST_SET ≡ false → ms ≡ sweep w (i + 1) ns
-  turn_stays t = sym (set-get_or ms at 0) ∙ sym (put_at_index _) ∙ sweep_turn w i ns ms (get_or ms at 0) (get_or ms at 0) em standing_at (sym (leave_stays w _ t))
+  pub sweep_stays : (1 ≤ read → read ≤ LARGEST_SET → ⊥) → sweep w (i + 1) ns ≡ sweep w i ns
+  sweep_stays other = turn read (leave_stays w read other) ∙ set-get_or (sweep w i ns) (3 * i + 2) 0
 
 pub sweep_length : (w n : ℕ) (ns : List ℕ) → length (sweep w n ns) ≡ length ns
 unfolding sweep
@@ -95,16 +78,16 @@ sweep_stop : (w n d : ℕ) (ns : List ℕ) → length ns / 3 ≤ n → sweep w (
 sweep_stop w n zero ns h = rw (add-zero n)
 sweep_stop w n (suc d) ns h = rw (add-suc n d) (sweep_out w (n + d) ns (omega arith) ∙ sweep_stop w n d ns h)
 
-pub sweep_lent : (w n : ℕ) (ns : List ℕ) → sweep w (min n (length ns / 3)) ns ≡ sweep w n ns
-sweep_lent w n ns = by (leb n (length ns / 3)) refl
-  where
-    by : (t : Bool) → leb n (length ns / 3) ≡ t → sweep w (min n (length ns / 3)) ns ≡ sweep w n ns
-    by true h = let e : min n (length ns / 3) ≡ n = omega (arith, leb-true n (length ns / 3) h) in rw e
-    by false h =
-        let l = leb-false n (length ns / 3) h in
-        let e : min n (length ns / 3) ≡ length ns / 3 = omega (arith, l) in
-        let f : length ns / 3 + (n - length ns / 3) ≡ n = omega (arith, l) in
-        rw e (sym (sweep_stop w (length ns / 3) (n - length ns / 3) ns (omega arith)) ∙ ap (λ (m : ℕ). sweep w m ns) f)
+pub sweep_lent : (w n : ℕ) (ns : List ℕ) → sweep w n ns ≡ sweep w (min n (length ns / 3)) ns
+sweep_lent w n ns =
+    let m = min n (length ns / 3) in
+    let e : m + (n - m) ≡ n = omega arith in
+    ⊎_elim
+    (λ h. let f : m ≡ n = omega (arith, h) in rw f refl)
+    (λ h. ap (λ (k : ℕ). sweep w k ns) (sym e) ∙ sweep_stop w m (n - m) ns (omega (arith, h)))
+    (cases_lt n (length ns / 3))
+
+pub ruleset sweeping = (sweep_none, sweep_drops, sweep_stays, sweep_lent)
 
 -- a word that is no standing of the nodes 1 to n stays
 pub sweep_index : (w n : ℕ) (ns : List ℕ) (k : ℕ) → ((i : ℕ) → i < n → k ≢ 3 * i + 2) → get_or (sweep w n ns) k 0 ≡ get_or ns k 0
@@ -173,10 +156,6 @@ pub cleared_none : (ws : List ℕ) → cleared 0 ws ≡ ws
 unfolding cleared
 cleared_none ws = refl
 
-pub cleared_suc : (k : ℕ) (ws : List ℕ) → cleared (k + 1) ws ≡ store (cleared k ws) k 0
-unfolding cleared
-cleared_suc k ws = rw (add-one k)
-
 pub cleared_length : (count : ℕ) (ws : List ℕ) → length (cleared count ws) ≡ length ws
 unfolding cleared
 cleared_length zero ws = refl
@@ -201,3 +180,17 @@ pub cleared_beyond : (count : ℕ) (ws : List ℕ) (k : ℕ) → count ≤ k →
 unfolding cleared store
 cleared_beyond zero ws k h = refl
 cleared_beyond (suc c) ws k h = get_or-set_other (cleared c ws) c k 0 0 (omega arith) ∙ cleared_beyond c ws k (omega arith)
+
+-- the first words filled with 0, as many of the count as there are
+pub cleared_fill : (count m : ℕ) (ws zs : List ℕ) → m ≡ min (length ws) count → zs ≡ replicate m 0 → zs ++ drop m ws ≡ cleared count ws
+cleared_fill count m ws zs em ez =
+    let lz = ap length ez ∙ length-replicate m 0 in
+    same_number_lists (zs ++ drop m ws) (cleared count ws)
+    (omega (arith, length-append zs (drop m ws), length-drop m ws, cleared_length count ws))
+    (λ k h.
+    ⊎_elim
+    (λ b. get_or_append_left zs (drop m ws) 0 k (omega (arith, b)) ∙ rw ez (get_or-replicate m k 0 0 b) ∙ sym (cleared_below count ws k (omega (arith, b))))
+    (λ a.
+    get_or-append_right zs (drop m ws) m k 0 lz a ∙ get_or-drop m ws (k - m) 0 ∙ ap (λ (i : ℕ). get_or ws i 0) (omega (arith, a))
+    ∙ sym (cleared_beyond count ws k (omega (arith, h, a, length-append zs (drop m ws), length-drop m ws))))
+    (cases_lt k m))

@@ -10,11 +10,9 @@ fn reverse(x: u32) -> u32
 {
     let mut r: u32 = 0;
     let mut y = x;
-    let mut i: u32 = 0;
-    while i < 32 {
+    for _ in 0..u32::BITS {
         r = r * 2 + y % 2;
-        y = y / 2;
-        i += 1;
+        y /= 2;
     }
     r
 }

@@ -2,9 +2,10 @@
 #![tactic(auto)]
 
 ghost use Rattle.std.specs.Prelude.{◌≡◌};
-ghost use Rattle.tree.specs.Tree.{parent_of, on_path, next_down, power_of_two, power_up_to};
+ghost use Rattle.tree.specs.Tree.{parent_of, on_path, next_down, power_up_to};
 
 // A bucket's parent, the bucket that it was split from: its number with the top set bit cleared.
+#[tactic(auto, using(crate::proofs::Laws::parents), unfolding(crate::specs::Tree::parent_of))]
 pub fn parent(bucket: u32) -> u32
     ensures { result ≡ parent_of bucket }
 {
@@ -16,6 +17,7 @@ pub fn parent(bucket: u32) -> u32
 }
 
 // Is the ancestor on the path from the bucket to bucket 0, whose dummies are made before the bucket's own?
+#[tactic(auto, using(crate::proofs::Laws::paths))]
 pub fn on_path(bucket: u32, ancestor: u32) -> bool
     ensures { result ≡ on_path bucket ancestor }
 {
@@ -29,6 +31,7 @@ pub fn on_path(bucket: u32, ancestor: u32) -> bool
 }
 
 // The bucket just below `making` on the path from the bucket to 0, whose dummy is made next; 0 where there is none.
+#[tactic(auto, using(crate::proofs::Laws::downs))]
 pub fn next_down(bucket: u32, making: u32) -> u32
     ensures { result ≡ next_down bucket making }
 {
@@ -42,20 +45,10 @@ pub fn next_down(bucket: u32, making: u32) -> u32
     next_down(p, making)
 }
 
-// Is x a power of two, as the number of buckets always is? Those divide the greatest power of a word, and nothing else does.
-fn power_of_two(x: u32) -> bool
-    ensures { result ≡ power_of_two x }
-{
-    if x == 0 {
-        return false;
-    }
-    2147483648 % x == 0
-}
-
 // x is a power of two from 2 to `most`.
-#[tactic(auto, unfolding(crate::specs::Tree::power_up_to))]
+#[tactic(auto, using(crate::proofs::Laws::power_counted), unfolding(crate::specs::Tree::power_up_to))]
 pub fn power_up_to(most: u32, x: u32) -> bool
     ensures { result ≡ power_up_to most x }
 {
-    (2 <= x) & (x <= most) & power_of_two(x)
+    (2..=most).contains(&x) && x.is_power_of_two()
 }

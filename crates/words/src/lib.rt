@@ -1,7 +1,7 @@
 // The words of the lent tables, by node and by bucket. Every function is total: past a table's end a word reads 0 and is not written, and so is node 0, which means nothing.
 #![tactic(auto)]
 
-ghost use Rattle.std.specs.Prelude.{◌≡◌};
+ghost use Rattle.std.specs.Prelude.{◌≡◌, set, slice_index};
 ghost use Rattle.words.specs.Words.{word, put, bucket, store};
 
 // The three words of a node.
@@ -27,48 +27,56 @@ pub struct Lengths {
     pub buckets: usize,
 }
 
+// The word at that place of a table.
+fn read(table: &[u32], at: usize) -> u32
+    ensures { result ≡ slice_index table.now at }
+{
+    table.get(at).copied().unwrap_or(0)
+}
+
+// Stores v at that place of a table; by a test, since a slice's `get_mut` does not say what the slice ends as.
+fn write(table: &mut [u32], at: usize, v: u32)
+    ensures { table.new ≡ set table.old at v }
+{
+    if at < table.len() {
+        table[at] = v;
+    }
+}
+
 // Word `which` of node n: its split key, its link or its standing.
+#[tactic(auto, using(crate::proofs::Laws::nothing, crate::proofs::Laws::word_at))]
 pub fn word(nodes: &[u32], n: u32, which: u32) -> u32
     ensures { result ≡ word nodes.now n which }
 {
     if n == 0 {
         return 0;
     }
-    let from = 3 * ((n - 1) as usize) + (which as usize);
-    if from < nodes.len() { nodes[from] } else { 0 }
+    read(nodes, 3 * (n as usize - 1) + which as usize)
 }
 
 // Stores v in word `which` of node n.
+#[tactic(auto, using(crate::proofs::Laws::put_nothing, crate::proofs::Laws::put_at))]
 pub fn put(nodes: &mut [u32], n: u32, which: u32, v: u32)
     ensures { nodes.new ≡ put nodes.old n which v }
 {
     if n == 0 {
         return;
     }
-    let to = 3 * ((n - 1) as usize) + (which as usize);
-    if to < nodes.len() {
-        nodes[to] = v;
-    }
+    write(nodes, 3 * (n as usize - 1) + which as usize, v);
 }
 
 // The word of bucket b.
+#[tactic(auto, unfolding(crate::specs::Words::bucket))]
 pub fn bucket(buckets: &[u32], b: u32) -> u32
     ensures { result ≡ bucket buckets.now b }
 {
-    let from = b as usize;
-    if from < buckets.len() {
-        buckets[from]
-    } else {
-        0
-    }
+    read(buckets, b as usize)
 }
 
 // Stores v in the word of bucket b.
+#[tactic(auto, unfolding(crate::specs::Words::store))]
 pub fn store(buckets: &mut [u32], b: u32, v: u32)
     ensures { buckets.new ≡ store buckets.old b v }
 {
-    let to = b as usize;
-    if to < buckets.len() {
-        buckets[to] = v;
-    }
+    write(buckets, b as usize, v);
 }

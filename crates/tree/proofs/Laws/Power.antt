@@ -1,14 +1,16 @@
--- A number is a power of two exactly if it divides 2 ^ 31: a divisor of a power of two is one.
+-- A number is a power of two exactly if one of its bits is set: each number but 0 is its top set bit and a rest.
 -- Assumes nothing.
-use Prim.Native.Nat.{ℕ, zero, suc, ◌+◌, ◌-◌, ◌*◌, ◌/◌, ◌%◌, ◌^◌, ◌<◌, ◌≤◌}
-use native.Mathlib.Nat.{pow-suc, mul-zero, mul-suc, zero-mul, one-mul, add-mul, mul_comm, mul_assoc, mul_left_comm, mod-add-div, mul-mod_right}
+use Prim.Native.Nat.{ℕ, zero, suc, ◌+◌, ◌-◌, ◌*◌, ◌^◌, ◌<◌, ◌≤◌}
+use native.Mathlib.Nat.{pow-suc}
 use native.Mathlib.Omega.{arith}
 use mathlib.Core.Path.{◌≡◌, refl, sym, ap, ◌∙◌}
 use mathlib.Core.Bool.{Bool, true, false, ◌||◌, or-true, true≢false}
 use mathlib.Core.Logic.{◌↔◌}
 use lib.Dec.{leb, eqb}
-use lib.Pow.{pow-add, pow_mono}
-use borrow.Author.Tests.{leb-true, leb-false, eqb-true, eqb-false, eq-eqb}
+use lib.Pow.{pow_pos, pow_mono}
+use lib.Count.{ones, ones_cat, ones-ones, ones-le}
+use Rattle.std.proofs.lemmas.Nat.{zero_from_ones, ones_le_self}
+use borrow.Author.Tests.{leb-true, leb-false, eqb-true, eqb-false, eq-eqb, ne_eqb}
 use Rattle.tree.specs.Tree.{power_below, power_of_two}
 
 power_sound : (k x : ℕ) → power_below k x ≡ true → (i : ℕ) × (x ≡ 2 ^ i)
@@ -51,53 +53,40 @@ top_bit (suc k) x h l = at (top_bit k x h) (leb (2 ^ k) x) refl
     at ih true e = (k, omega arith, leb-true (2 ^ k) x e, l)
     at ih false e = let r = ih (leb-false (2 ^ k) x e) in (r.0, omega arith, r.2, r.3)
 
--- a divisor of a power of two is one: the divisor or the quotient is even, and half of it does for the power before
-divisor : (k d q : ℕ) → d * q ≡ 2 ^ k → (i : ℕ) × (d ≡ 2 ^ i)
-divisor zero zero q e = absurd (omega (arith, zero-mul q))
-divisor zero (suc zero) q e = (0, refl)
-divisor zero (suc (suc d)) zero e = absurd (omega (arith, mul-zero (suc (suc d))))
-divisor zero (suc (suc d)) (suc q) e = absurd (omega (arith, mul-suc (suc (suc d)) q))
-divisor (suc k) d q e = by (λ c p. divisor k c p) (eqb (d % 2) 0) refl
+-- one bit of it is set
+power_above : (k x : ℕ) → 2 ^ k ≤ x → power_below k x ≡ false
+unfolding power_below
+power_above zero x h = refl
+power_above (suc k) x h =
+    let d = pow-suc 2 k in
+    let p = pow_pos k in
+    rw (ne_eqb x (2 ^ k) (λ e. omega arith), power_above k x (omega arith))
+
+ones_top : (k r : ℕ) → r < 2 ^ k → ones (1 * 2 ^ k + r) ≡ 1 + ones r
+ones_top k r h = ones_cat k 1 r h ∙ ap (λ (n : ℕ). n + ones r) (ones-ones 1)
+
+topped : (k r x : ℕ) → r < 2 ^ k → 1 * 2 ^ k + r ≡ x → eqb (ones x) 1 ≡ eqb x (2 ^ k) || power_below k x
+topped k zero x h e =
+    rw (eq-eqb x (2 ^ k) (omega arith))
+    (eq-eqb (ones x) 1 (omega (arith, ap ones e, ones_top k 0 h, ones_le_self 0)))
+topped k (suc r) x h e =
+    rw (ne_eqb x (2 ^ k) (λ q. omega arith), power_above k x (omega arith))
+    (ne_eqb (ones x) 1 (λ q. omega (arith, zero_from_ones (suc r) (omega (arith, q, ap ones e, ones_top k (suc r) h)))))
+
+counted : (k x : ℕ) → x < 2 ^ k → eqb (ones x) 1 ≡ power_below k x
+unfolding power_below
+counted zero x h = ne_eqb (ones x) 1 (λ e. omega (arith, ones-le 0 x h))
+counted (suc k) x h = at (counted k x) (leb (2 ^ k) x) refl
   where
-    whole : d * q ≡ 2 * 2 ^ k
-    whole = e ∙ pow-suc 2 k ∙ mul_comm (2 ^ k) 2
+    at : (x < 2 ^ k → eqb (ones x) 1 ≡ power_below k x) → (t : Bool) → leb (2 ^ k) x ≡ t → eqb (ones x) 1 ≡ eqb x (2 ^ k) || power_below k x
+    at ih true e =
+        let d = pow-suc 2 k in
+        let l = leb-true (2 ^ k) x e in
+        topped k (x - 2 ^ k) x (omega arith) (omega arith)
+    at ih false e =
+        let b = leb-false (2 ^ k) x e in
+        rw (ne_eqb x (2 ^ k) (λ q. omega arith)) (ih b)
 
-    by : ((c p : ℕ) → c * p ≡ 2 ^ k → (i : ℕ) × (c ≡ 2 ^ i)) → (t : Bool) → eqb (d % 2) 0 ≡ t → (i : ℕ) × (d ≡ 2 ^ i)
-    by before true h =
-        let even : d ≡ 2 * (d / 2) = omega (arith, eqb-true (d % 2) 0 h) in
-        let half : d / 2 * q ≡ 2 ^ k = omega (arith, sym (mul_assoc 2 (d / 2) q) ∙ ap (λ (n : ℕ). n * q) (sym even) ∙ whole) in
-        let r = before (d / 2) q half in
-        (suc r.0, omega (arith, even, r.1, pow-suc 2 r.0 ∙ mul_comm (2 ^ r.0) 2))
-    by before false h =
-        let odd : d ≡ 2 * (d / 2) + 1 = omega (arith, eqb-false (d % 2) 0 h) in
-        let split : 2 * (d / 2 * q) + q ≡ 2 * 2 ^ k = ap (λ (n : ℕ). n + q) (sym (mul_assoc 2 (d / 2) q)) ∙ ap (λ (n : ℕ). 2 * (d / 2) * q + n) (sym (one-mul q)) ∙ sym (add-mul (2 * (d / 2)) 1 q) ∙ ap (λ (n : ℕ). n * q) (sym odd) ∙ whole in
-        let even : q ≡ 2 * (q / 2) = omega (arith, split) in
-        let half : d * (q / 2) ≡ 2 ^ k = omega (arith, mul_left_comm 2 d (q / 2) ∙ ap (λ (n : ℕ). d * n) (sym even) ∙ whole) in
-        before d (q / 2) half
-
-both_ways : (s t : Bool) → (s ≡ true → t ≡ true) → (t ≡ true → s ≡ true) → s ≡ t
-both_ways true t f g = sym (f refl)
-both_ways false true f g = g refl
-both_ways false false f g = refl
-
--- the test of `power_of_two`
-pub power_divides : (x : ℕ) → 0 < x → x < 4294967296 → eqb (2147483648 % x) 0 ≡ power_of_two x
-power_divides x h l = both_ways (eqb (2147483648 % x) 0) (power_of_two x) there back
-  where
-    there : eqb (2147483648 % x) 0 ≡ true → power_of_two x ≡ true
-    there e =
-        let z = eqb-true (2147483648 % x) 0 e in
-        (power_means x l).1 (divisor 31 x (2147483648 / x) (omega (arith, z, mod-add-div 2147483648 x)))
-
-    back : power_of_two x ≡ true → eqb (2147483648 % x) 0 ≡ true
-    back e =
-        let r = (power_means x l).0 e in
-        let i = r.0 in
-        let below = exponent_lt 32 i (rw (← r.1) l) in
-        let whole : i + (31 - i) ≡ 31 = omega arith in
-        let is : 2147483648 ≡ x * 2 ^ (31 - i) = ap (λ (n : ℕ). 2 ^ n) (sym whole) ∙ pow-add 2 i (31 - i) ∙ ap (λ (n : ℕ). n * 2 ^ (31 - i)) (sym r.1) in
-        eq-eqb (2147483648 % x) 0 (ap (λ (n : ℕ). n % x) is ∙ mul-mod_right x (2 ^ (31 - i)))
-
-pub power_zero : (x : ℕ) → x ≡ 0 → power_of_two x ≡ false
-unfolding power_of_two power_below
-power_zero x e = rw e
+pub power_counted : (x : ℕ) → x < 4294967296 → eqb (ones x) 1 ≡ power_of_two x
+unfolding power_of_two
+power_counted x h = counted 32 x h
