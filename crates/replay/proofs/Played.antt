@@ -1,15 +1,13 @@
 -- The answer's class says which line a call has; an exponent outside 1 to 10 gives a limit that preparing refuses.
 -- Assumes nothing.
-use Prim.Native.Nat.{ℕ, ◌^◌, ◌<◌}
+use Prim.Native.Nat.{ℕ, ◌^◌}
 use mathlib.Core.Bool.{true, false, and-false}
 use mathlib.Core.Path.{◌≡◌, sym, ap, ◌∙◌}
 use mathlib.Core.List.{List}
-use native.Mathlib.Omega.{arith}
 use lib.Dec.{ltb}
 use lib.ListN.{length, get_or, replicate}
 use Rattle.choice.proofs.Auto.{pick_true, pick_false}
 use Rattle.choice.proofs.Cases.{by_bool, both}
-use Rattle.choice.proofs.Telling.{clears_lt, clears_or}
 use Rattle.names.specs.Names.{number_of, refuses, goes_on}
 use Rattle.names.proofs.Classes.{refused_stops, only_going}
 use Rattle.names.specs.declared.Answer.{Answer}
@@ -43,11 +41,8 @@ other_line o a steps offset r =
     (λ g. sym (ended_none o.worker o.kind o.key a steps (rw (only_going a g) (and-false (kind_named o.kind)))))
     (λ _. sym (pick_false _ _ _ r))
 
--- ---- an exponent that is not outside 1 to 10
-pub exponent_fits : (e : ℕ) → outside 1 10 e ≡ false → e < 32
-exponent_fits e h = omega (arith, ((clears_or (clears_lt e 1) (clears_lt 10 e)).sound h).1)
-
--- an exponent outside gives 0 buckets, which breaks a limit, whatever K, W and L are
+-- ---- an exponent outside 1 to 10
+-- it gives 0 buckets, which breaks a limit, whatever K, W and L are
 limits_broken : (body : List ℕ) → outside 1 10 (get_or body 0 0) ≡ true → limit_broken (fresh_header (limits_of body)) ≡ true
 unfolding buckets_of limit_broken power_up_to
 limits_broken body o = rw (pick_true (outside 1 10 (get_or body 0 0)) 0 (2 ^ get_or body 0 0) o)

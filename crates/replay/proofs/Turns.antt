@@ -1,67 +1,77 @@
 -- A record takes at least a byte, so a run has at most as many turns as bytes: turns beyond those change nothing.
 -- Assumes nothing.
-use Prim.Native.Nat.{ℕ, zero, suc, ◌+◌, ◌-◌, ◌≤◌, ◌<◌}
-use mathlib.Core.Bool.{Bool, true, false, false≢true}
-use mathlib.Core.Path.{◌≡◌, refl, sym, ap, ◌∙◌}
-use mathlib.Core.List.{List}
+use Prim.Native.Nat.{ℕ, zero, suc, ◌+◌, ◌≤◌}
+use mathlib.Core.Path.{◌≡◌, refl, sym, ap}
+use mathlib.Core.List.{List, ◌++◌}
 use native.Mathlib.Omega.{arith}
-use lib.Dec.{ltb, leb}
+use lib.Dec.{leb}
 use lib.ListN.{length}
-use borrow.Author.Tests.{le-leb, lt-ltb}
+use borrow.Author.Tests.{le-leb}
+use Rattle.std.specs.Prelude.{Option, Some, None, Result, Ok, Err}
 use Rattle.choice.proofs.Auto.{pick_true}
-use Rattle.choice.proofs.Cases.{both}
 use Rattle.words.specs.Words.{Left}
 use Rattle.crew.specs.Crew.{Crew}
-use Rattle.script.specs.declared.Entry.{Entry}
-use Rattle.script.specs.declared.Entry.TheVariants.{End}
-use Rattle.script.specs.Script.{entry_at}
-use Rattle.replay.specs.Replay.{kind_of, next_of, is_played, later_lines}
-use Rattle.replay.proofs.Laws.{goes, next_call, later_on, later_stop, and_false}
+use Rattle.script.specs.declared.Kind.{Kind}
+use Rattle.script.specs.declared.Kind.TheVariants.{Prepare, Insert, Find, Delete, Step, Steps}
+use Rattle.script.specs.declared.Fault.{Fault}
+use Rattle.script.specs.declared.Record.{Record}
+use Rattle.script.specs.Script.{entry_at, body_at}
+use Rattle.script.proofs.Whole.{WholeAt, whole_at}
+use Rattle.replay.specs.declared.Refusal.{Refusal}
+use Rattle.replay.specs.Play.{worker_in, number_in, played, operation_of, call_line}
+use Rattle.replay.specs.Replay.{unless_prepares, later_record, last_lines, on_record, later_lines}
 
--- the input's end is no record
-end_stops : (input : List ℕ) (offset : ℕ) → length input ≤ offset → is_played (kind_of (entry_at input offset)) ≡ false
-unfolding entry_at
-end_stops input offset h = ap (λ (e : Entry). is_played (kind_of e)) (pick_true (leb (length input) offset) End _ (le-leb (length input) offset h))
+-- the call of a record at an offset
+abbrev pub next_call : List ℕ → ℕ → Left Crew → Record → Left Crew
+next_call input offset l r = played r.kind (worker_in (body_at input offset)) (number_in r.kind (body_at input offset)) l.out.called.header l.out.workers l.tables
 
--- the record after one that is played starts further on
-abbrev Further : ℕ → Entry → Type 0
-Further offset e = is_played (kind_of e) ≡ true → offset < next_of e
+-- its line
+abbrev pub next_line : List ℕ → ℕ → Left Crew → Record → List ℕ
+next_line input offset l r = let m = next_call input offset l r in call_line (operation_of (worker_in (body_at input offset)) l.out.workers) m.out.called.answer m.out.called.steps offset
 
-further : (input : List ℕ) (offset : ℕ) → Further offset (entry_at input offset)
-unfolding entry_at
-further input offset =
-    both (Further offset) _ (λ e. absurd (false≢true e))
-    (both (Further offset) _ (λ e. absurd (false≢true e))
-    (both (Further offset) _ (λ e. absurd (false≢true e)) (λ e. omega arith)))
+-- what stops the run, and the last line
+abbrev pub stopped : List ℕ → ℕ → Left Crew → List ℕ
+stopped input offset l = last_lines input offset l.out.called.header l.tables.nodes
 
--- the loop's test where a record is played
-goes_on : (input : List ℕ) (turns offset : ℕ) → 0 < turns → is_played (kind_of (entry_at input offset)) ≡ true → goes input turns offset ≡ true
-goes_on input turns offset h e = rw (lt-ltb 0 turns h) e
-
--- and where none is
-goes_not : (input : List ℕ) (turns offset : ℕ) → is_played (kind_of (entry_at input offset)) ≡ false → goes input turns offset ≡ false
-goes_not input turns offset e = rw e (and_false (ltb 0 turns))
-
-pub turns_enough : (input : List ℕ) (turns more offset : ℕ) (l : Left Crew) → length input ≤ offset + turns → later_lines input (turns + more) offset l ≡ later_lines input turns offset l
-turns_enough input zero more offset l h =
-    later_stop input (0 + more) offset l (goes_not input (0 + more) offset (end_stops input offset (omega arith)))
-    ∙ sym (later_stop input 0 offset l refl)
-turns_enough input (suc turns) more offset l h =
-    by_test (is_played (kind_of (entry_at input offset))) refl
-    (λ past. turns_enough input turns more (next_of (entry_at input offset)) (next_call input offset l) (omega arith))
+-- a record that is played is whole
+pub played_whole : (input : List ℕ) (offset : ℕ) (r : Record) → later_record (entry_at input offset) ≡ Ok (Some r) → WholeAt input offset r
+played_whole input offset r h = whole_at input offset r (told (entry_at input offset) h)
   where
-    fewer : suc turns + more - 1 ≡ turns + more
-    fewer = omega arith
+    kept : (k : Kind) (s : Record) → unless_prepares k s ≡ Ok (Some r) → ◌≡◌ {A = Result (Option Record) Fault} (Ok (Some s)) (Ok (Some r))
+    kept Prepare s h = absurd (cc h)
+    kept Insert s h = cc h
+    kept Find s h = cc h
+    kept Delete s h = cc h
+    kept Step s h = cc h
+    kept Steps s h = cc h
 
-    one : suc turns - 1 ≡ turns
-    one = omega arith
+    told : (e : Result (Option Record) Fault) → later_record e ≡ Ok (Some r) → e ≡ Ok (Some r)
+    told (Err fault) h = absurd (cc h)
+    told (Ok None) h = absurd (cc h)
+    told (Ok (Some s)) h = kept s.kind s h
 
-    by_test : (b : Bool) → is_played (kind_of (entry_at input offset)) ≡ b
-        → (offset < next_of (entry_at input offset) → later_lines input (turns + more) (next_of (entry_at input offset)) (next_call input offset l) ≡ later_lines input turns (next_of (entry_at input offset)) (next_call input offset l))
-        → later_lines input (suc turns + more) offset l ≡ later_lines input (suc turns) offset l
-    by_test true e rest =
-        later_on input (suc turns + more) offset l (goes_on input (suc turns + more) offset (omega arith) e)
-        ∙ rw (fewer, rest (further input offset e)) (rw one at (sym (later_on input (suc turns) offset l (goes_on input (suc turns) offset (omega arith) e))))
-    by_test false e rest =
-        later_stop input (suc turns + more) offset l (goes_not input (suc turns + more) offset e)
-        ∙ sym (later_stop input (suc turns) offset l (goes_not input (suc turns) offset e))
+-- what is printed from a played record on
+abbrev pub from_record : List ℕ → ℕ → ℕ → Left Crew → Record → List ℕ
+from_record input turns offset l r = next_line input offset l r ++ later_lines input turns r.next (next_call input offset l r)
+
+-- at the input's end nothing is left to play
+pub end_stops : (input : List ℕ) (turns offset : ℕ) (l : Left Crew) → length input ≤ offset → later_lines input turns offset l ≡ stopped input offset l
+unfolding later_lines entry_at
+end_stops input zero offset l h = refl
+end_stops input (suc turns) offset l h =
+    ap (λ (e : Result (Option Record) Fault). on_record (later_record e) (from_record input turns offset l) (stopped input offset l)) (pick_true (leb (length input) offset) (Ok None) _ (le-leb (length input) offset h))
+
+pub turns_enough : (input : List ℕ) (few many offset : ℕ) (l : Left Crew) → length input ≤ offset + few → length input ≤ offset + many → later_lines input few offset l ≡ later_lines input many offset l
+unfolding later_lines
+turns_enough input zero many offset l h k = sym (end_stops input many offset l (omega (arith, h)))
+turns_enough input (suc few) zero offset l h k = end_stops input (suc few) offset l (omega (arith, k))
+turns_enough input (suc few) (suc many) offset l h k =
+    on (later_record (entry_at input offset))
+    (λ r is. let w = played_whole input offset r is in
+    ap (λ (text : List ℕ). next_line input offset l r ++ text) (turns_enough input few many r.next (next_call input offset l r) (omega (arith, w.ends, h)) (omega (arith, w.ends, k))))
+  where
+    on : (e : Result (Option Record) Refusal) → ((r : Record) → e ≡ Ok (Some r) → from_record input few offset l r ≡ from_record input many offset l r)
+        → on_record e (from_record input few offset l) (stopped input offset l) ≡ on_record e (from_record input many offset l) (stopped input offset l)
+    on (Err refusal) same = refl
+    on (Ok None) same = refl
+    on (Ok (Some r)) same = same r refl

@@ -1,5 +1,5 @@
 -- One record of a schedule: the call that it asks for, and the line that the call prints.
-use Rattle.std.specs.Prelude.{ℕ, ◌^◌, List, [], leb, eqb, get_or, replicate}
+use Rattle.std.specs.Prelude.{ℕ, ◌^◌, List, [], get_or, replicate}
 use Rattle.choice.specs.Choice.{pick}
 use Rattle.words.specs.Words.{Tables, Left}
 use Rattle.names.specs.Names.{number_of, refuses, goes_on}
@@ -10,8 +10,11 @@ use Rattle.record.specs.declared.Worker.{Worker}
 use Rattle.record.specs.Worker.{idle}
 use Rattle.prepare.specs.declared.Limits.{Limits}
 use Rattle.register.specs.declared.Call.{Call}
-use Rattle.register.specs.declared.Call.TheVariants.{Start, Step}
+use Rattle.register.specs.declared.Call.TheVariants.{Start, Step as OneStep}
 use Rattle.crew.specs.Crew.{Crew, prepare_at, serve_at}
+use Rattle.script.specs.declared.Kind.{Kind}
+use Rattle.script.specs.declared.Kind.TheVariants.{Step, Steps}
+use Rattle.script.specs.Script.{byte_of}
 use Rattle.numbers.specs.Numbers.{little_endian}
 use Rattle.lines.specs.Lines.{ended_line, refused_line}
 use Rattle.replay.specs.declared.Operation.{Operation}
@@ -41,15 +44,19 @@ abbrev pub worker_in : List ℕ → ℕ
 worker_in body = get_or body 0 0
 
 -- and its number is the key (4 bytes) of 01, 02 and 03, the one step of 04, and the n steps of 05
-unfoldable pub number_in : ℕ → List ℕ → ℕ
-number_in kind body = pick (leb kind 3) (little_endian 4 body 1) (pick (eqb kind 4) 1 (get_or body 1 0))
+abbrev pub number_in : Kind → List ℕ → ℕ
+number_in Step body = 1
+number_in Steps body = get_or body 1 0
+number_in _ body = little_endian 4 body 1
 
--- the call: 01, 02, 03 a start; 04, 05 steps
-unfoldable pub call_of : ℕ → ℕ → Call
-call_of kind number = pick (leb kind 3) (Start kind number) Step
+-- the call: 01, 02, 03 a start, whose byte is the number of its operation; 04, 05 steps
+abbrev pub call_of : Kind → ℕ → Call
+call_of Step number = OneStep
+call_of Steps number = OneStep
+call_of kind number = Start (byte_of kind) number
 
 -- what it leaves: steps are so many at most, ending after the first whose answer isn't 0
-unfoldable pub played : ℕ → ℕ → ℕ → Header → List Worker → Tables → Left Crew
+unfoldable pub played : Kind → ℕ → ℕ → Header → List Worker → Tables → Left Crew
 played kind w number h ws ts = serve_at h ws w (call_of kind number) number ts
 
 -- ---- the line of a call

@@ -8,7 +8,7 @@ ghost use Rattle.script.specs.Script.{entry_at, body_at};
 ghost use Rattle.text.specs.Text.{Laid};
 ghost use Rattle.lines.specs.Lines.{refused_line};
 ghost use Rattle.replay.specs.Play.{buckets_of, limits_of, opened, number_in, call_of, played, operation_of, call_line};
-ghost use Rattle.replay.specs.Replay.{kind_of, stand_of, stop_line, is_played, last_line, first_line, beginning, printed};
+ghost use Rattle.replay.specs.Replay.{refusal_number, refusal_of, first_record, later_record, stop_line, last_line, first_line, beginning, printed};
 
 use bank::Bank;
 use header::Header;
@@ -17,10 +17,7 @@ use names::Answer;
 use prepare::Limits;
 use record::Worker;
 use register::Call;
-use script::Entry;
-
-// No kind.
-const NONE: u32 = 6;
+use script::{Fault, Kind, Record};
 
 // The most nodes that a register has: no chain is longer.
 const MOST_NODES: u32 = 5136;
@@ -32,15 +29,6 @@ const MOST_BUCKETS: usize = 1024;
 
 // The most workers that a register has.
 const MOST_WORKERS: usize = 16;
-
-// What a schedule itself is refused with: an unknown kind, a record cut short, 00 not just first, an input too long.
-const UNKNOWN: u32 = 30;
-
-const CUT_SHORT: u32 = 31;
-
-const MISPLACED: u32 = 32;
-
-const TOO_LONG: u32 = 33;
 
 // The longest schedule.
 const LONGEST: usize = 65536;
@@ -59,31 +47,52 @@ struct Operation {
     key: u32,
 }
 
-// What stands at an offset: the kind of a whole record, where the next one starts, and the number that refuses it where it stops the run.
-#[derive(Clone, Copy)]
-struct Stand {
-    kind: u32,
-    next: usize,
-    fault: u32,
+// What a schedule itself is refused with, each with its number.
+#[derive(Clone, Copy, Debug, PartialEq, Eq)]
+enum Refusal {
+    UnknownKind = 30,
+    CutShort = 31,
+    // The first record isn't 00, or a later one is.
+    Misplaced = 32,
+    TooLong = 33,
+}
+
+impl Refusal {
+    fn number(self) -> u32
+        ensures { result ≡ refusal_number self }
+    {
+        self as u32
+    }
+}
+
+impl From<Fault> for Refusal {
+    ghost from_gives = { λ fault refusal. refusal ≡ refusal_of fault };
+
+    fn from(fault: Fault) -> Refusal {
+        match fault {
+            Fault::Unknown => Refusal::UnknownKind,
+            Fault::Cut => Refusal::CutShort,
+        }
+    }
 }
 
 // M; an exponent outside 1 to 10 stands for none.
+#[tactic(auto, unfolding(crate::specs::Play::buckets_of, choice::specs::Choice::pick))]
 fn buckets_of(exponent: u32) -> u32
     ensures { result ≡ buckets_of exponent }
 {
-    if (exponent < 1) | (10 < exponent) {
-        return 0;
+    match exponent {
+        1..=10 => 2u32.pow(exponent),
+        _ => 0,
     }
-    1u32 << exponent
 }
 
 // The body of 00: exponent of M, K, W, L.
 fn limits_of(body: &[u8]) -> Limits
     ensures { result ≡ limits_of body.now }
 {
-    let exponent = numbers::byte_at(body, 0);
     Limits {
-        m: buckets_of(exponent),
+        m: buckets_of(numbers::byte_at(body, 0)),
         k: numbers::two_at(body, 1),
         w: numbers::byte_at(body, 3),
         l: numbers::byte_at(body, 4),
@@ -102,74 +111,56 @@ fn ready(body: &[u8], nodes: &mut [u32], buckets: &mut [u32]) -> Bank
 }
 
 // The number in a body: the key of a start, the one step of 04, the n steps of 05.
-#[tactic(auto, unfolding(choice::specs::Choice::pick, crate::specs::Play::number_in))]
-fn number_in(kind: u32, body: &[u8]) -> u32
+fn number_in(kind: Kind, body: &[u8]) -> u32
     ensures { result ≡ number_in kind body.now }
 {
-    if kind <= 3 {
-        return numbers::four_at(body, 1);
+    match kind {
+        Kind::Step => 1,
+        Kind::Steps => numbers::byte_at(body, 1),
+        _ => numbers::four_at(body, 1),
     }
-    if kind == 4 {
-        return 1;
-    }
-    numbers::byte_at(body, 1)
 }
 
-// The call of a record that isn't 00: a start, or steps.
-#[tactic(auto, unfolding(choice::specs::Choice::pick, crate::specs::Play::call_of))]
-fn call_of(kind: u32, number: u32) -> Call
+// The call of a record that isn't 00: a start, or steps. The byte of a start is the number of its operation.
+fn call_of(kind: Kind, number: u32) -> Call
     ensures { result ≡ call_of kind number }
 {
-    if kind <= 3 {
-        return Call::Start { kind, key: number };
+    match kind {
+        Kind::Step | Kind::Steps => Call::Step,
+        _ => Call::Start {
+            kind: kind as u32,
+            key: number,
+        },
     }
-    Call::Step
 }
 
 // What the call leaves; steps are so many at most.
 #[tactic(auto, unfolding(crate::specs::Play::played))]
-fn play(
-    workers: [Worker; MOST_WORKERS],
-    header: Header,
-    kind: u32,
-    w: u32,
-    number: u32,
-    nodes: &mut [u32],
-    buckets: &mut [u32],
-) -> Bank
-    ensures { left (crew result.called result.workers) (tables nodes.new buckets.new) ≡ played kind w number header workers (tables nodes.old buckets.old) }
+fn play(bank: Bank, kind: Kind, w: u32, number: u32, nodes: &mut [u32], buckets: &mut [u32]) -> Bank
+    ensures { left (crew result.called result.workers) (tables nodes.new buckets.new) ≡ played kind w number bank.called.header bank.workers (tables nodes.old buckets.old) }
 {
     let call = call_of(kind, number);
-    bank::serve(workers, w, header, call, number, nodes, buckets)
+    bank::serve(
+        bank.workers,
+        w,
+        bank.called.header,
+        call,
+        number,
+        nodes,
+        buckets,
+    )
 }
 
 // The operation of worker w; past the table it has none.
 fn operation_of(workers: [Worker; MOST_WORKERS], w: u32) -> Operation
     ensures { result ≡ operation_of w workers }
 {
-    let at = w as usize;
-    if at < MOST_WORKERS {
-        let x = workers[at];
-        return Operation {
-            worker: w,
-            kind: x.kind,
-            key: x.key,
-        };
-    }
+    let worker = workers.get(w as usize).copied().unwrap_or(Worker::idle());
     Operation {
         worker: w,
-        kind: 0,
-        key: 0,
+        kind: worker.kind,
+        key: worker.key,
     }
-}
-
-// The answer that a call handed back.
-fn answer_of(bank: Bank) -> Answer
-    ensures { result ≡ bank.called.answer }
-{
-    let called = bank.called;
-    let answer = called.answer;
-    answer
 }
 
 // The line of a refusal.
@@ -203,47 +194,35 @@ fn put_call(
     lines::put_line(out, at, ended)
 }
 
-// What stands at an offset, to the run.
-fn stand_at(schedule: &[u8], offset: usize) -> Stand
-    ensures { result ≡ stand_of (entry_at schedule.now offset) }
+// The first record has to be 00: where the next one starts.
+fn first_at(schedule: &[u8]) -> Result<usize, Refusal>
+    ensures { result ≡ first_record (entry_at schedule.now 0) }
 {
-    let entry = script::record_at(schedule, offset);
-    match entry {
-        Entry::End => Stand {
-            kind: NONE,
-            next: 0,
-            fault: MISPLACED,
-        },
-        Entry::Unknown => Stand {
-            kind: NONE,
-            next: 0,
-            fault: UNKNOWN,
-        },
-        Entry::Cut => Stand {
-            kind: NONE,
-            next: 0,
-            fault: CUT_SHORT,
-        },
-        Entry::Whole { kind, next } => {
-            let whole = kind as u32;
-            Stand {
-                kind: whole,
-                next,
-                fault: MISPLACED,
-            }
-        }
+    match script::record_at(schedule, 0)? {
+        Some(record) if record.kind == Kind::Prepare => Ok(record.next),
+        _ => Err(Refusal::Misplaced),
+    }
+}
+
+// A later record must not be 00: the record at an offset, None at the input's end.
+fn later_at(schedule: &[u8], offset: usize) -> Result<Option<Record>, Refusal>
+    ensures { result ≡ later_record (entry_at schedule.now offset) }
+{
+    match script::record_at(schedule, offset)? {
+        Some(record) if record.kind == Kind::Prepare => Err(Refusal::Misplaced),
+        record => Ok(record),
     }
 }
 
 // What stops the run at an offset; the input's end prints nothing.
+#[tactic(auto, unfolding(crate::specs::Replay::stop_line))]
 fn put_stop(out: &mut [u8], at: usize, schedule: &[u8], offset: usize) -> usize
     ensures { Laid out.old at (stop_line schedule.now offset) out.new result }
 {
-    if schedule.len() <= offset {
-        return text::put_text(out, at, b"");
+    match later_at(schedule, offset) {
+        Ok(_) => text::put_text(out, at, b""),
+        Err(refusal) => put_refused(out, at, refusal.number(), offset),
     }
-    let stand = stand_at(schedule, offset);
-    put_refused(out, at, stand.fault, offset)
 }
 
 // The registered keys, the count and the size.
@@ -259,14 +238,6 @@ fn put_last(out: &mut [u8], at: usize, header: Header, nodes: &[u32]) -> usize
     lines::put_line(out, at, end)
 }
 
-// A whole record that isn't 00 stands at an offset: the run goes on.
-fn is_played(schedule: &[u8], offset: usize) -> bool
-    ensures { result ≡ is_played (kind_of (entry_at schedule.now offset)) }
-{
-    let kind = stand_at(schedule, offset).kind;
-    (1 <= kind) & (kind <= 5)
-}
-
 // The line of a register that was prepared.
 fn put_first(out: &mut [u8], header: Header) -> usize
     ensures { Laid out.old 0 (first_line header) out.new result }
@@ -280,7 +251,7 @@ fn put_first(out: &mut [u8], header: Header) -> usize
     lines::put_line(out, 0, register)
 }
 
-// The first record, and the records after it, one a turn: there are no more of them than bytes. A refused 00 stops the run.
+// The first record, and the records after it, up to the input's end or one that stops the run. A refused 00 stops it too.
 fn begin(
     schedule: &[u8],
     next: usize,
@@ -291,43 +262,40 @@ fn begin(
     ensures { Laid out.old 0 (beginning schedule.now next (opened (body_at schedule.now 0) (tables nodes.old buckets.old))) out.new result }
 {
     let mut bank = ready(script::body_of(schedule, 0), nodes, buckets);
-    let answer = answer_of(bank);
+    let answer = bank.called.answer;
     if !answer.goes_on() {
         return put_refused(out, 0, answer.number(), 0);
     }
     let mut place = put_first(out, bank.called.header);
     let mut offset = next;
-    let mut turns = schedule.len();
-    while (0 < turns) & is_played(schedule, offset) {
-        let stand = stand_at(schedule, offset);
-        let kind = stand.kind;
+    while let Ok(Some(record)) = later_at(schedule, offset) {
         let body = script::body_of(schedule, offset);
         let w = numbers::byte_at(body, 0);
-        let number = number_in(kind, body);
-        let workers = bank.workers;
-        let operation = operation_of(workers, w);
-        bank = play(workers, bank.called.header, kind, w, number, nodes, buckets);
-        let answer = answer_of(bank);
-        place = put_call(out, place, operation, answer, bank.called.steps, offset);
-        offset = stand.next;
-        turns -= 1;
+        let number = number_in(record.kind, body);
+        let operation = operation_of(bank.workers, w);
+        bank = play(bank, record.kind, w, number, nodes, buckets);
+        let called = bank.called;
+        place = put_call(out, place, operation, called.answer, called.steps, offset);
+        offset = record.next;
     }
     place = put_stop(out, place, schedule, offset);
     put_last(out, place, bank.called.header, &nodes[..])
 }
 
 // Runs a schedule and lays what it prints at the start of a lent buffer; where that ends.
+#[tactic(auto, unfolding(crate::specs::Replay::printed, choice::specs::Choice::pick))]
 pub fn run(schedule: &[u8], out: &mut [u8]) -> usize
     ensures { Laid out.old 0 (printed schedule.now) out.new result }
 {
     if LONGEST < schedule.len() {
-        return put_refused(out, 0, TOO_LONG, LONGEST);
+        return put_refused(out, 0, Refusal::TooLong.number(), LONGEST);
     }
-    let stand = stand_at(schedule, 0);
-    if stand.kind != 0 {
-        return put_refused(out, 0, stand.fault, 0);
+    match first_at(schedule) {
+        Ok(next) => {
+            let mut nodes = [0u32; NODE_WORDS];
+            let mut buckets = [0u32; MOST_BUCKETS];
+            begin(schedule, next, &mut nodes, &mut buckets, out)
+        }
+        Err(refusal) => put_refused(out, 0, refusal.number(), 0),
     }
-    let mut nodes = [0u32; NODE_WORDS];
-    let mut buckets = [0u32; MOST_BUCKETS];
-    begin(schedule, stand.next, &mut nodes, &mut buckets, out)
 }

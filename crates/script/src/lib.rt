@@ -1,91 +1,110 @@
 // A schedule's bytes: records of one byte of kind and a body whose length the kind fixes. The work is done on a slice and an offset; a `Reader` keeps the two together.
 #![tactic(auto)]
 
-ghost use Rattle.std.specs.Prelude.{◌+◌, min, ◌≡◌};
-ghost use Rattle.script.specs.Script.{body_length, entry_at, end_of, body_at};
+ghost use Rattle.std.specs.Prelude.{◌≡◌};
+ghost use Rattle.script.specs.Script.{kind_of, body_length, entry_at, body_at};
 
-// What stands at an offset.
-#[derive(Clone, Copy)]
-pub enum Entry {
-    // The input ends at the offset or before it.
-    End,
+use std::error::Error;
+use std::fmt;
+
+// The kinds of record, in the order of their bytes from 00 on.
+#[derive(Clone, Copy, Debug, PartialEq, Eq)]
+pub enum Kind {
+    Prepare,
+    Insert,
+    Find,
+    Delete,
+    Step,
+    Steps,
+}
+
+// Why no record can be read at an offset.
+#[derive(Clone, Copy, Debug, PartialEq, Eq)]
+pub enum Fault {
     // The byte of kind is none of the kinds (30).
     Unknown,
     // The body runs past the input's end (31).
     Cut,
-    // A whole record: its kind, and where the next record starts.
-    Whole { kind: u8, next: usize },
 }
 
-// How many bytes follow a byte of kind; 0 where there is no such kind.
-#[tactic(auto, unfolding(crate::specs::Script::body_length, choice::specs::Choice::pick))]
-fn body_length(kind: u8) -> usize
-    ensures { result ≡ body_length kind }
-{
-    if kind == 0 {
-        return 5;
+impl fmt::Display for Fault {
+    fn fmt<W: fmt::Write>(&self, f: &mut fmt::Formatter<W>) -> fmt::Result {
+        f.write_str(match self {
+            Fault::Unknown => "unknown kind",
+            Fault::Cut => "record cut short",
+        })
     }
-    if kind <= 3 {
-        return 5;
-    }
-    if kind == 4 {
-        return 1;
-    }
-    if kind == 5 {
-        return 2;
-    }
-    0
 }
 
-// What stands at an offset of the input: the kind is looked at before the length.
+impl Error for Fault {}
+
+// A whole record: its kind, and where the next record starts.
+#[derive(Clone, Copy, Debug, PartialEq, Eq)]
+pub struct Record {
+    pub kind: Kind,
+    pub next: usize,
+}
+
+impl TryFrom<u8> for Kind {
+    type Error = Fault;
+
+    ghost try_from_gives = { λ byte outcome. outcome ≡ kind_of byte };
+
+    #[tactic(auto, unfolding(crate::specs::Script::kind_of, choice::specs::Choice::pick))]
+    fn try_from(byte: u8) -> Result<Kind, Fault> {
+        match byte {
+            0 => Ok(Kind::Prepare),
+            1 => Ok(Kind::Insert),
+            2 => Ok(Kind::Find),
+            3 => Ok(Kind::Delete),
+            4 => Ok(Kind::Step),
+            5 => Ok(Kind::Steps),
+            _ => Err(Fault::Unknown),
+        }
+    }
+}
+
+impl Kind {
+    // How many bytes follow the byte of kind.
+    fn body_length(self) -> usize
+        ensures { result ≡ body_length self }
+    {
+        match self {
+            Kind::Prepare | Kind::Insert | Kind::Find | Kind::Delete => 5,
+            Kind::Step => 1,
+            Kind::Steps => 2,
+        }
+    }
+}
+
+// The record at an offset of the input, None where the input ends there or before. The kind is looked at before the length.
 #[tactic(auto, unfolding(crate::specs::Script::entry_at, choice::specs::Choice::pick))]
-pub fn record_at(input: &[u8], at: usize) -> Entry
+pub fn record_at(input: &[u8], at: usize) -> Result<Option<Record>, Fault>
     ensures { result ≡ entry_at input.now at }
 {
-    if input.len() <= at {
-        return Entry::End;
+    let Some(&byte) = input.get(at) else {
+        return Ok(None);
+    };
+    let kind = Kind::try_from(byte)?;
+    let long = kind.body_length();
+    if input.len() - (at + 1) < long {
+        return Err(Fault::Cut);
     }
-    let kind = input[at];
-    let long = body_length(kind);
-    if long == 0 {
-        return Entry::Unknown;
-    }
-    let start = at + 1;
-    if input.len() - start < long {
-        return Entry::Cut;
-    }
-    Entry::Whole {
-        kind: kind,
-        next: start + long,
-    }
-}
-
-// Where the body of a whole record ends; 0 where there is no whole record.
-fn end_of(entry: Entry) -> usize
-    ensures { result ≡ end_of entry }
-{
-    match entry {
-        Entry::End => 0,
-        Entry::Unknown => 0,
-        Entry::Cut => 0,
-        Entry::Whole { kind, next } => next,
-    }
-}
-
-// The place after a byte, or an end where that comes first.
-fn past(at: usize, end: usize) -> usize
-    ensures { result ≡ min (at + 1) end }
-{
-    if at < end { at + 1 } else { end }
+    Ok(Some(Record {
+        kind,
+        next: at + 1 + long,
+    }))
 }
 
 // The body of the record at an offset, as that stretch of the input itself: from past the byte of kind to the next record. Empty where there is no whole record.
+#[tactic(auto, unfolding(crate::specs::Script::entry_at, crate::specs::Script::body_at, choice::specs::Choice::pick))]
 fn body_at<'a>(input: &'a [u8], at: usize) -> &'a [u8]
     ensures { result.now ≡ body_at input.now at }
 {
-    let end = end_of(record_at(input, at));
-    let start = past(at, end);
-    &input[start..end]
+    match record_at(input, at) {
+        Ok(Some(record)) => &input[at + 1..record.next],
+        _ => &[],
+    }
 }
 
 // The input and a place in it, kept together.

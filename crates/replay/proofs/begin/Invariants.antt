@@ -1,14 +1,14 @@
 -- What is still to be printed, laid where the last line ended, leads to the whole text.
+use Rattle.std.proofs.Common.{◌-◌, length}
 use Rattle.words.specs.Words.{tables, left}
 use Rattle.crew.specs.Crew.{crew}
-use Rattle.replay.specs.Replay.{later_lines}
-use Rattle.replay.proofs.Laws.{Leads}
+use Rattle.replay.proofs.Laws.{Leads, rest_lines}
 use Rattle.replay.proofs.begin.Given as goal
 
-abbrev pub invariant-loop-turns : goal.invariant-loop-turns
-invariant-loop-turns l =
-    Leads l.out l.place (later_lines l.schedule l.turns l.offset (left (crew l.bank.called l.bank.workers) (tables l.nodes l.buckets)))
-    l.initial.out l.initial.place (later_lines l.schedule l.initial.turns l.initial.offset (left (crew l.initial.bank.called l.initial.bank.workers) (tables l.initial.nodes l.initial.buckets)))
+abbrev pub invariant-loop-record : goal.invariant-loop-record
+invariant-loop-record l =
+    Leads l.out l.place (rest_lines l.schedule l.offset (left (crew l.bank.called l.bank.workers) (tables l.nodes l.buckets)))
+    l.initial.out l.initial.place (rest_lines l.schedule l.initial.offset (left (crew l.initial.bank.called l.initial.bank.workers) (tables l.initial.nodes l.initial.buckets)))
 
-abbrev pub decreases-loop-turns : goal.decreases-loop-turns
-decreases-loop-turns l = l.turns
+abbrev pub decreases-loop-record : goal.decreases-loop-record
+decreases-loop-record l = length l.schedule - l.offset
