@@ -112,6 +112,7 @@ pub fn serve(
 {
     let len = workers.len();
     let at = w as usize;
+    // Read here and stored by its index below, since a proof knows nothing of the table after a `get_mut`.
     let Some(&worker) = workers.get(at) else {
         let lengths = Lengths {
             nodes: nodes.len(),

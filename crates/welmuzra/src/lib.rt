@@ -144,6 +144,7 @@ fn store_record(records: &mut [u32], w: u32, x: Worker)
     ensures { records.new ≡ record_put records.old w (record_words x) }
 {
     let at = (w as usize) * RECORD;
+    // A test, and not `get_mut`, after which a proof knows nothing of the table.
     if at + RECORD <= records.len() {
         // Word by word: a copy of the whole array goes over the stack, 36 instructions more at every step.
         for (i, word) in record_words(x).iter().enumerate() {
