@@ -1,4 +1,5 @@
 // The table of records by value, lent for a call and taken back: whoever holds a register needs no slice of worker structs of its own.
+// Nodes and buckets go as two slices: a struct that held both would need a clause in each contract that it still holds the same two.
 #![tactic(auto)]
 
 ghost use Rattle.std.specs.Prelude.{◌≡◌};
@@ -30,10 +31,9 @@ pub fn prepare(
 {
     let mut prepared = workers;
     let called = crew::prepare(&mut prepared, limits, header, nodes, buckets);
-    let left = prepared;
     Bank {
         called,
-        workers: left,
+        workers: prepared,
     }
 }
 
@@ -51,9 +51,8 @@ pub fn serve(
 {
     let mut served = workers;
     let called = crew::serve(&mut served, w, header, call, most, nodes, buckets);
-    let left = served;
     Bank {
         called,
-        workers: left,
+        workers: served,
     }
 }

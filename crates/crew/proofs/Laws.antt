@@ -2,13 +2,16 @@
 -- Assumes nothing.
 use Prim.Native.Nat.{ℕ, zero, suc, ◌-◌, ◌≤◌, ◌<◌}
 use native.Mathlib.Omega.{arith}
-use mathlib.Core.Path.{◌≡◌, refl, sym, ap, subst, ◌∙◌}
-use mathlib.Core.Bool.{Bool, true, false, false≢true, ◌&&◌}
-use mathlib.Core.List.{List}
+use native.Mathlib.Nat.{zero-add}
+use native.Mathlib.Numerals.{add-one}
+use mathlib.Core.Path.{◌≡◌, refl, sym, ap, ◌∙◌}
+use mathlib.Core.Bool.{Bool, true, false}
+use mathlib.Core.List.{List, ◌++◌}
 use lib.Dec.{ltb}
-use lib.ListN.{length, set, length-set}
-use lib.Seq.{set-get_or, set-set, get_or-set_same}
-use borrow.Author.Tests.{le-leb, lt-ltb, ltb-false, ne_eqb}
+use lib.ListN.{length, set, drop, replicate, length-set, length-replicate}
+use lib.Seq.{paste, set-get_or, set-set, get_or-set_same}
+use Rattle.std.proofs.lemmas.List.Edits.{paste_all, fill_from_more}
+use borrow.Author.Tests.{le-leb, le-ltb, lt-ltb, ltb-false, ne_eqb}
 use Rattle.choice.specs.Choice.{pick}
 use Rattle.choice.proofs.Auto.{pick_false, pick_true}
 use Rattle.choice.proofs.Cases.{by_bool, both}
@@ -22,6 +25,7 @@ use Rattle.header.specs.declared.Header.{Header}
 use Rattle.header.specs.Header.{limit_broken, missing}
 use Rattle.record.specs.declared.Worker.{Worker}
 use Rattle.record.specs.Worker.{idle}
+use Rattle.acts.specs.declared.Called.{Called}
 use Rattle.acts.specs.declared.Effect.{Effect}
 use Rattle.acts.specs.declared.Effect.TheVariants.{Nothing, TakeKey, TakeDummy, Free, Aim, Place, Mark, Unlink, Store, Count, Size}
 use Rattle.acts.specs.declared.Move.{Move}
@@ -38,8 +42,7 @@ use Rattle.register.specs.declared.Turn.{Turn}
 use Rattle.register.specs.Step.{refused_with, seen_by, carried}
 use Rattle.register.specs.Calls.{stepped_by, step_verdict, step_of}
 use Rattle.register.proofs.Laws.{past_asked}
-use Rattle.crew.specs.declared.Ready.{Ready}
-use Rattle.crew.specs.Crew.{Crew, crew, turn_at, one_call, stored, call_at, most_at, serve_at, filled, prepare_one, prepare_at}
+use Rattle.crew.specs.Crew.{Crew, crew, turn_at, one_call, stored, call_at, most_at, serve_at, filled, wants, prepare_one, made, prepare_at}
 use Rattle.crew.specs.One.{turn, past_of, most_of, serve_one}
 
 -- a write leaves the limits and the busy set as they are
@@ -75,23 +78,23 @@ unfolding one_call
 call_width t few ts = both (λ (l : Left Outcome). l.out.called.header.w ≡ t.header.w) few refl (step_width t ts)
 
 -- ---- several steps: while a worker goes on its record is in the table, so one store at the end is enough
--- the loop's test is that steps are left and that the last went on: one turn of the loop, and its end
-pub turns_left : (turns : ℕ) (b : Bool) → ltb 0 turns && b ≡ true → 0 < turns
-turns_left zero b e = absurd (false≢true e)
-turns_left (suc turns) b e = omega arith
-
-pub most_on : (w : ℕ) (few : Bool) (left : ℕ) (l : Left Outcome) → ltb 0 left && goes_on l.out.called.answer ≡ true
+-- one turn of the loop, and its end: the last answer isn't 0, or no step is left
+pub most_on : (w : ℕ) (few : Bool) (left : ℕ) (l : Left Outcome) → 0 < left → goes_on l.out.called.answer ≡ true
     → most_of w few left l ≡ most_of w few (left - 1) (one_call (turn l.out.called.header w l.out.worker) few Step l.tables)
 unfolding most_of
-most_on w few zero l e = absurd (false≢true e)
-most_on w few (suc left) l e =
+most_on w few zero l h e = absurd (omega arith)
+most_on w few (suc left) l h e =
     let one : suc left - 1 ≡ left = omega arith in
-    pick_true _ _ _ (rw (lt-ltb 0 (suc left) (omega arith)) at e) ∙ rw one
+    pick_true _ _ _ e ∙ rw one
 
-pub most_over : (w : ℕ) (few : Bool) (left : ℕ) (l : Left Outcome) → ltb 0 left && goes_on l.out.called.answer ≡ false → most_of w few left l ≡ l
+pub most_over : (w : ℕ) (few : Bool) (left : ℕ) (l : Left Outcome) → goes_on l.out.called.answer ≡ false → most_of w few left l ≡ l
 unfolding most_of
 most_over w few zero l e = refl
-most_over w few (suc left) l e = pick_false _ _ _ (rw (lt-ltb 0 (suc left) (omega arith)) at e)
+most_over w few (suc left) l e = pick_false _ _ _ e
+
+pub most_none : (w : ℕ) (few : Bool) (l : Left Outcome) → most_of w few 0 l ≡ l
+unfolding most_of
+most_none w few l = refl
 
 most_stop : (w most : ℕ) (l : Left Crew) → goes_on l.out.called.answer ≡ false → most_at w most l ≡ l
 unfolding most_at
@@ -175,16 +178,42 @@ pub none_for : (l : Limits) → goes_on (too_few_for l) ≡ false
 unfolding too_few_for
 none_for l = both (λ (a : Answer). goes_on a ≡ false) (limit_broken (fresh_header l)) refl refl
 
-module _ (l : Limits) (h : Header) (ws : List Worker) (ts : Tables) where
-  -- what is left once the records that are wanted are filled
-  pub prepare_in : (r : Ready) (us : Tables) → left r us ≡ prepare_one l (length ws) h ts → left (crew r.called (filled r.count r.worker ws)) us ≡ prepare_at l h ws ts
-  prepare_in r us e = ap (λ (z : Left Ready). left (crew z.out.called (filled z.out.count z.out.worker ws)) z.tables) e
+-- filled, the first n are x and the others as they were
+filled_paste : (n : ℕ) (x : Worker) (ws : List Worker) → n ≤ length ws → filled n x ws ≡ paste ws 0 (replicate n x) n
+unfolding filled
+filled_paste zero x ws h = refl
+filled_paste (suc n) x ws h =
+    rw (filled_paste n x ws (omega arith))
+    (ap (λ (k : ℕ). set (paste ws 0 (replicate n x) n) k x) (sym (zero-add n)) ∙ fill_from_more ws 0 n x (omega arith) ∙
+    ap (λ (k : ℕ). paste ws 0 (replicate k x) k) (add-one n))
 
-  -- no more are wanted than there are
-  pub prepare_fits : (r : Ready) (us : Tables) → left r us ≡ prepare_one l (length ws) h ts → r.count ≤ length ws
+pub filled_front : (n : ℕ) (x : Worker) (ws : List Worker) → n ≤ length ws → filled n x ws ≡ replicate n x ++ drop n ws
+filled_front n x ws h = filled_paste n x ws h ∙ paste_all ws 0 (replicate n x) n (sym (length-replicate n x)) ∙ rw (zero-add n) refl
+
+-- none is wanted where what preparing answers isn't 0, and else W idle ones
+none_wanted : (w : ℕ) (ws : List Worker) (c : Called) (us : Tables) → goes_on c.answer ≡ false → left (crew c ws) us ≡ made ws (left (wants w c) us)
+none_wanted w ws c us g = ap (λ (zs : List Worker). left (crew c zs) us) (sym (filled_none idle ws) ∙ ap (λ (n : ℕ). filled n idle ws) (sym (pick_false _ w 0 g)))
+
+all_wanted : (w : ℕ) (ws : List Worker) (c : Called) (us : Tables) → w ≤ length ws → goes_on c.answer ≡ true
+    → left (crew c (replicate w idle ++ drop w ws)) us ≡ made ws (left (wants w c) us)
+all_wanted w ws c us enough g =
+    ap (λ (zs : List Worker). left (crew c zs) us) (sym (filled_front w idle ws enough) ∙ ap (λ (n : ℕ). filled n idle ws) (sym (pick_true _ w 0 g)))
+
+module _ (l : Limits) (h : Header) (ws : List Worker) (ts : Tables) where
+  -- fewer records than W
+  pub prepare_few : length ws < l.w → left (crew (answered (too_few_for l) h) ws) ts ≡ prepare_at l h ws ts
   unfolding prepare_one
-  prepare_fits r us e =
-      subst (λ (z : Left Ready). z.out.count ≤ length ws) (sym e)
-      (by_bool (λ (z : Left Ready). z.out.count ≤ length ws) (ltb (length ws) l.w)
-      (λ _. subst (λ (n : ℕ). n ≤ length ws) (sym (pick_false (goes_on (too_few_for l)) l.w 0 (none_for l))) (omega arith))
-      (λ f. both (λ (n : ℕ). n ≤ length ws) (goes_on (prepared l h ts).out.answer) (ltb-false (length ws) l.w f) (omega arith)))
+  prepare_few f = none_wanted l.w ws (answered (too_few_for l) h) ts (none_for l) ∙ ap (made ws) (sym (pick_true _ _ _ (lt-ltb (length ws) l.w f)))
+
+  -- enough of them
+  module _ (enough : l.w ≤ length ws) (c : Called) (us : Tables) (e : left c us ≡ prepared l h ts) where
+    wanted : made ws (left (wants l.w c) us) ≡ prepare_at l h ws ts
+    unfolding prepare_one
+    wanted =
+        ap (λ (p : Left Called). made ws (left (wants l.w p.out) p.tables)) e ∙ ap (made ws) (sym (pick_false _ _ _ (le-ltb (length ws) l.w enough)))
+
+    pub prepare_done : goes_on c.answer ≡ true → left (crew c (replicate l.w idle ++ drop l.w ws)) us ≡ prepare_at l h ws ts
+    prepare_done g = all_wanted l.w ws c us enough g ∙ wanted
+
+    pub prepare_none : goes_on c.answer ≡ false → left (crew c ws) us ≡ prepare_at l h ws ts
+    prepare_none g = none_wanted l.w ws c us g ∙ wanted

@@ -18,7 +18,6 @@ use Rattle.register.specs.declared.Call.TheVariants.{Start, Step}
 use Rattle.register.specs.declared.Turn.{Turn}
 use Rattle.register.specs.Step.{refused_with}
 use Rattle.register.specs.Calls.{asked_of}
-use Rattle.crew.specs.declared.Ready.{Ready}
 
 -- what a call hands back, and the records that it leaves
 pub record Crew : Type 0 where
@@ -61,6 +60,12 @@ serve_at h ws w Step most ts = most_at w most (left (crew (answered Going h) ws)
 unfoldable pub filled : ℕ → Worker → List Worker → List Worker
 filled zero x ws = ws
 filled (suc n) x ws = set (filled n x ws) n x
+
+-- what preparing hands back, and the records that it wants: the first `count` as `worker`
+pub record Ready : Type 0 where
+  pub called : Called
+  pub count : ℕ
+  pub worker : Worker
 
 -- a prepared register wants W idle records, a refused one none
 abbrev pub wants : ℕ → Called → Ready

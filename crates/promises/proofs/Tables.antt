@@ -31,8 +31,7 @@ use Rattle.register.specs.declared.Call.{Call}
 use Rattle.register.specs.declared.Call.TheVariants.{Start, Step}
 use Rattle.register.specs.declared.Turn.{Turn}
 use Rattle.register.specs.Calls.{asked_of}
-use Rattle.crew.specs.declared.Ready.{Ready}
-use Rattle.crew.specs.Crew.{crew, turn_at, one_call, stored, call_at, filled, prepare_one}
+use Rattle.crew.specs.Crew.{Ready, crew, turn_at, one_call, stored, call_at, filled, prepare_one}
 use Rattle.crew.proofs.Laws.{filled_none}
 use Rattle.promises.specs.Unchanged.{Refusal, Untouched}
 use Rattle.promises.specs.Tables.{AllAsBefore, UnchangedIn, PrepareAtExactly, StartAtExactly, StepAtExactly, PrepareAtUnchanged, StartAtUnchanged, StepAtUnchanged}

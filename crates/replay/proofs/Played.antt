@@ -21,8 +21,7 @@ use Rattle.prepare.specs.declared.Limits.{Limits}
 use Rattle.names.specs.declared.Verdict.TheVariants.{Refused}
 use Rattle.prepare.specs.Prepare.{fresh_header, prepare_verdict, too_few_for, prepared}
 use Rattle.words.specs.Words.{Tables, Left}
-use Rattle.crew.specs.declared.Ready.{Ready}
-use Rattle.crew.specs.Crew.{prepare_one, prepare_at}
+use Rattle.crew.specs.Crew.{Ready, prepare_one, prepare_at}
 use Rattle.lines.specs.Lines.{kind_named, ended_line, refused_line}
 use Rattle.lines.proofs.Joined.{ended_none}
 use Rattle.replay.specs.declared.Operation.{Operation}

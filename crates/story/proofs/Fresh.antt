@@ -37,8 +37,7 @@ use Rattle.prepare.specs.Prepare.{fresh_header, prepare_verdict, too_few_for, pr
 use Rattle.header.specs.Header.{is_short}
 use Rattle.words.specs.Words.{Tables, lengths, Left}
 use Rattle.acts.specs.declared.Called.{Called}
-use Rattle.crew.specs.declared.Ready.{Ready as Ready'}
-use Rattle.crew.specs.Crew.{filled, prepare_one, made as filled_by, prepare_at}
+use Rattle.crew.specs.Crew.{Ready as Ready', filled, prepare_one, made as filled_by, prepare_at}
 use Rattle.promises.proofs.Fresh.{prepare_fresh}
 use Rattle.register.specs.Registered.{key, link, standing}
 use Rattle.story.specs.Shared.{Shared, worker_of}

@@ -27,8 +27,7 @@ use Rattle.names.specs.declared.Verdict.TheVariants.{Pass, Refused}
 use Rattle.prepare.specs.Prepare.{fresh_header, prepare_verdict, too_few_for, prepared_by, prepared}
 use Rattle.header.specs.Header.{is_short}
 use Rattle.promises.specs.Unchanged as un
-use Rattle.crew.specs.declared.Ready.{Ready}
-use Rattle.crew.specs.Crew.{turn_at, one_call, filled, wants, prepare_one, made}
+use Rattle.crew.specs.Crew.{Ready, turn_at, one_call, filled, wants, prepare_one, made}
 use Rattle.crew.proofs.Laws.{none_for}
 use Rattle.welmuzra.specs.Words.{header_words, record_of, words_at}
 use Rattle.welmuzra.specs.Calls.{Replied, replied, says, reply_of, kept, readied, prepare_words}

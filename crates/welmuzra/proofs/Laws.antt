@@ -1,15 +1,12 @@
 -- What the code of a call over words needs: the record that the table has, the worker that there is not, and a turn more of the loop that stores a record.
 -- Assumes nothing.
-use Prim.Native.Nat.{ℕ, zero, suc, ◌+◌, ◌*◌, ◌≤◌, ◌<◌}
-use native.Mathlib.Omega.{arith}
+use Prim.Native.Nat.{ℕ, ◌+◌, ◌*◌, ◌≤◌}
 use mathlib.Core.Path.{◌≡◌, refl, sym, ap, ◌∙◌}
 use mathlib.Core.Bool.{Bool, true, false, true≢false}
 use mathlib.Core.List.{List}
 use native.Mathlib.Numerals.{add-one}
-use lib.ListN.{length, get_or, set, take, drop, length-set}
-use mir.Val.{bool_byte}
-use Rattle.choice.specs.Choice.{pick}
-use borrow.Author.Tests.{ltb-false, le-leb}
+use lib.ListN.{length, get_or, set, take, drop}
+use borrow.Author.Tests.{le-leb}
 use Rattle.choice.proofs.Auto.{pick_true, pick_false}
 use Rattle.choice.proofs.Cases.{both}
 use Rattle.names.specs.Names.{refuses}
@@ -29,16 +26,12 @@ use Rattle.register.specs.Calls.{asked_of}
 use Rattle.register.proofs.Laws.{past_asked}
 use Rattle.crew.specs.Crew.{one_call}
 use Rattle.welmuzra.specs.Calls.{Replied, replied, says, turn_in, lacks_records, kept, call_words}
-use Rattle.welmuzra.specs.Words.{RECORD, header_of, mark_word, record_of, lacks, words_at, words_put}
+use Rattle.welmuzra.specs.Words.{RECORD, header_of, record_of, lacks, words_at, words_put}
 
 -- record w of a table that has it is the one that its fifteen words are
 pub record_within : (n : ℕ) (rs : List ℕ) (w : ℕ) → n ≡ RECORD → lacks rs w ≡ false → record_of (take n (drop (w * RECORD) rs)) ≡ record_of (words_at rs w)
 unfolding words_at
 record_within n rs w whole e = ap (λ (n : ℕ). record_of (take n (drop (w * RECORD) rs))) whole ∙ ap record_of (sym (pick_false _ _ _ e))
-
--- a table of W records has record w for each w below W
-pub has_record : (len width w : ℕ) → lacks_records len width ≡ false → w < width → w * RECORD + RECORD ≤ len
-has_record len width w e l = omega (arith, ltb-false len (width * RECORD) e)
 
 -- ---- a worker that there is not
 module _ (hs rs : List ℕ) (w : ℕ) (c : Call) (ts : Tables) where
@@ -70,21 +63,10 @@ module _ (hs rs : List ℕ) (w : ℕ) (c : Call) (ts : Tables) where
   pub no_worker : few ≡ false → (header_of hs).w ≤ w → left (replied (says (missing (header_of hs) false (lengths ts)) 0) hs rs) ts ≡ call_words hs rs w c ts
   no_worker e l = none false (there_is e ∙ past_asked t c ts (le-leb (header_of hs).w w l))
 
--- ---- storing goes turn by turn
--- a mark as a number is its word
-pub mark_byte : (marked : Bool) → bool_byte marked ≡ mark_word marked
-unfolding pick
-mark_byte true = refl
-mark_byte false = refl
-
+-- ---- a record is stored word by word
 pub laid_suc : (n : ℕ) (ws : List ℕ) (at : ℕ) (rs : List ℕ) → words_put (n + 1) ws at rs ≡ set (words_put n ws at rs) (at + n) (get_or ws n 0)
 unfolding words_put
 laid_suc n ws at rs = rw (add-one n)
-
-pub laid_length : (n : ℕ) (ws : List ℕ) (at : ℕ) (rs : List ℕ) → length (words_put n ws at rs) ≡ length rs
-unfolding words_put
-laid_length zero ws at rs = refl
-laid_length (suc n) ws at rs = length-set (words_put n ws at rs) (at + n) (get_or ws n 0) ∙ laid_length n ws at rs
 
 -- a register that is prepared has at most 16 workers
 pub prepared_small : (l : Limits) (h : Header) (ts : Tables) → refuses (prepared l h ts).out.answer ≡ false → l.w ≤ 16

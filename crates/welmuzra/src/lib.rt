@@ -1,4 +1,5 @@
 // The register as a library that C links, over plain words: any word is a word, where a caller's bool or struct could be none.
+// Nodes and buckets are two slices, as C lends them.
 #![tactic(auto)]
 
 ghost use Rattle.std.specs.Prelude.{◌≡◌, false, ◌+◌, ◌*◌, ◌≤◌, length};
@@ -29,18 +30,43 @@ pub struct Reply {
     pub steps: u32,
 }
 
-// The header that seven words are.
+impl From<Answer> for Reply {
+    ghost from_gives = { λ answer reply. reply ≡ says answer 0 };
+
+    // What a refused call answers.
+    fn from(answer: Answer) -> Reply {
+        Reply {
+            answer: answer.number(),
+            steps: 0,
+        }
+    }
+}
+
+impl From<Called> for Reply {
+    ghost from_gives = { λ called reply. reply ≡ reply_of called };
+
+    // What a call answers beside its words.
+    fn from(called: Called) -> Reply {
+        Reply {
+            answer: called.answer.number(),
+            steps: called.steps,
+        }
+    }
+}
+
+// The header that seven words are; a function, since a `From` that makes one stands where `Header` is declared.
 fn header_of(words: [u32; HEADER]) -> Header
     ensures { result ≡ header_of words }
 {
+    let [m, k, w, l, size, count, busy] = words;
     Header {
-        m: words[0],
-        k: words[1],
-        w: words[2],
-        l: words[3],
-        size: words[4],
-        count: words[5],
-        busy: words[6],
+        m,
+        k,
+        w,
+        l,
+        size,
+        count,
+        busy,
     }
 }
 
@@ -88,16 +114,12 @@ fn record_at(records: &[u32], w: u32) -> Worker
     }
 }
 
-// Record w goes into its place; past the table there is nothing to store.
-#[tactic(auto, unfolding(choice::specs::Choice::pick, crate::specs::Words::record_put))]
-fn store_record(records: &mut [u32], w: u32, x: Worker)
-    ensures { records.new ≡ record_put records.old w (record_words x) }
+// The fifteen words of a record.
+#[tactic(auto, unfolding(choice::specs::Choice::pick))]
+fn record_words(x: Worker) -> [u32; RECORD]
+    ensures { result ≡ record_words x }
 {
-    let at = (w as usize) * RECORD;
-    if records.len() < at + RECORD {
-        return;
-    }
-    let words = [
+    [
         x.place,
         x.errand,
         x.kind,
@@ -113,11 +135,21 @@ fn store_record(records: &mut [u32], w: u32, x: Worker)
         x.held,
         x.dummy,
         x.steps,
-    ];
-    let mut i: usize = 0;
-    while i < RECORD {
-        records[at + i] = words[i];
-        i += 1;
+    ]
+}
+
+// Record w goes into its place; past the table there is nothing to store.
+#[tactic(auto, unfolding(choice::specs::Choice::pick, crate::specs::Words::record_put))]
+fn store_record(records: &mut [u32], w: u32, x: Worker)
+    ensures { records.new ≡ record_put records.old w (record_words x) }
+{
+    let at = (w as usize) * RECORD;
+    // A test, and not `get_mut`, after which a proof knows nothing of the table.
+    if at + RECORD <= records.len() {
+        // Word by word: a copy of the whole array goes over the stack, 36 instructions more at every step.
+        for (i, word) in record_words(x).iter().enumerate() {
+            records[at + i] = *word;
+        }
     }
 }
 
@@ -125,28 +157,7 @@ fn store_record(records: &mut [u32], w: u32, x: Worker)
 fn lacks_records(len: usize, w: u32) -> bool
     ensures { result ≡ lacks_records len w }
 {
-    (len as u64) < (w as u64) * (RECORD as u64)
-}
-
-// What a refused call answers.
-fn refused(answer: Answer) -> Reply
-    ensures { result ≡ says answer 0 }
-{
-    Reply {
-        answer: answer.number(),
-        steps: 0,
-    }
-}
-
-// What a call answers beside its words.
-fn told(called: Called) -> Reply
-    ensures { result ≡ reply_of called }
-{
-    let answer = called.answer;
-    Reply {
-        answer: answer.number(),
-        steps: called.steps,
-    }
+    len < (w as usize) * RECORD
 }
 
 // What a call hands back goes into the words, unless it is refused.
@@ -154,15 +165,12 @@ fn told(called: Called) -> Reply
 fn keep(header: &mut [u32; HEADER], records: &mut [u32], w: u32, out: Outcome) -> Reply
     ensures { replied result header.new records.new ≡ kept header.old records.old w out }
 {
-    let called = out.called;
-    let answer = called.answer;
-    if answer.refuses() {
-        return told(called);
+    if out.called.answer.refuses() {
+        return Reply::from(out.called);
     }
-    let words = header_words(called.header);
-    *header = words;
+    *header = header_words(out.called.header);
     store_record(records, w, out.worker);
-    told(called)
+    Reply::from(out.called)
 }
 
 // Worker w is called: the register's own call on the record that its words are.
@@ -182,12 +190,12 @@ fn serve(
         buckets: buckets.len(),
     };
     if lacks_records(records.len(), h.w) {
-        return refused(h.missing(true, lengths));
+        return Reply::from(h.missing(true, lengths));
     }
     if h.w <= w {
-        return refused(h.missing(false, lengths));
+        return Reply::from(h.missing(false, lengths));
     }
-    let worker = record_at(&records[..], w);
+    let worker = record_at(records, w);
     let turn = Turn {
         number: w,
         header: h,
@@ -240,14 +248,11 @@ fn ready(header: &mut [u32; HEADER], records: &mut [u32], w: u32, called: Called
     requires { refuses called.answer ≡ false → w ≤ 16 }
     ensures { replied result header.new records.new ≡ readied w header.old records.old called }
 {
-    let answer = called.answer;
-    if answer.refuses() {
-        return told(called);
+    if !called.answer.refuses() {
+        *header = header_words(called.header);
+        scans::clear(records, w * (RECORD as u32));
     }
-    let words = header_words(called.header);
-    *header = words;
-    scans::clear(records, w * (RECORD as u32));
-    told(called)
+    Reply::from(called)
 }
 
 // A register of M buckets, K key nodes, W workers and load L.
@@ -267,7 +272,7 @@ pub extern "C" fn welmuzra_prepare(
 {
     let limits = Limits { m, k, w, l };
     if lacks_records(records.len(), w) {
-        return refused(limits.too_few());
+        return Reply::from(limits.too_few());
     }
     let called = limits.prepare(header_of(*header), nodes, buckets);
     ready(header, records, w, called)
