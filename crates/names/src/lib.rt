@@ -32,13 +32,6 @@ pub enum Answer {
     NoDummy = 19,
 }
 
-// Whether a call is refused before any word is read.
-#[derive(Clone, Copy)]
-pub enum Verdict {
-    Pass,
-    Refused(Answer),
-}
-
 impl Answer {
     // The scope paper's number.
     pub fn number(self) -> u32
