@@ -32,6 +32,13 @@ pub struct Turn {
     pub worker: Worker,
 }
 
+// A turn that has passed a call's checks, so that its header's numbers are small enough to add: what a step starts from.
+#[derive(Clone, Copy)]
+struct Checked {
+    turn: Turn,
+    ghost small: { Small turn.header },
+}
+
 // 17, 14: a start of an unknown kind, or on a key above the limit.
 #[tactic(auto, unfolding(choice::specs::Choice::pick, crate::specs::Parts::ask_verdict))]
 fn asked(call: Call) -> Result<(), Answer>
@@ -103,81 +110,6 @@ impl Turn {
         }
     }
 
-    // The one shared word that the step reads at its place, or the node that it found free.
-    #[tactic(auto, unfolding(choice::specs::Choice::pick, crate::specs::Step::word_for, crate::specs::Step::word_at, crate::specs::Step::word_given, crate::specs::Step::asked_at))]
-    fn word_for(self, nodes: &[u32], buckets: &[u32]) -> u32
-        requires { Small self.header }
-        ensures { result ≡ word_for self (tables nodes.now buckets.now) }
-    {
-        let x = self.worker;
-        let dummies = self.header.m + self.header.w;
-        match x.place {
-            place::I1 => scans::free_node(nodes, dummies + 1, dummies + self.header.k),
-            place::TB => words::bucket(buckets, x.wanted),
-            place::B2 => words::bucket(buckets, tree::parent(x.making)),
-            place::B4 => scans::free_node(nodes, 1, dummies),
-            place::F1 => words::word(nodes, x.start, LINK),
-            place::F2 | place::D4A => words::word(nodes, x.cur, LINK),
-            place::F3 | place::F4 | place::L2 | place::D4B => words::word(nodes, x.prev, LINK),
-            _ => 0,
-        }
-    }
-
-    // At F3 the split key of cur is read in the same step.
-    #[tactic(auto, unfolding(choice::specs::Choice::pick, crate::specs::Step::split_for))]
-    fn split_for(self, nodes: &[u32]) -> u32
-        ensures { result ≡ split_for self nodes.now }
-    {
-        if self.worker.place == place::F3 {
-            words::word(nodes, self.worker.cur, SPLIT_KEY)
-        } else {
-            0
-        }
-    }
-
-    // What the step sees.
-    fn look(self, nodes: &[u32], buckets: &[u32]) -> Seen
-        requires { Small self.header }
-        ensures { result ≡ seen_by self (tables nodes.now buckets.now) }
-    {
-        Seen {
-            header: self.header,
-            worker: self.worker,
-            word: self.word_for(nodes, buckets),
-            split: self.split_for(nodes),
-        }
-    }
-
-    // What the step decides: the shared word is read, and the place's own lines are followed.
-    fn decision(self, nodes: &[u32], buckets: &[u32]) -> Move
-        requires { Small self.header }
-        ensures { result ≡ decided (seen_by self (tables nodes.now buckets.now)) }
-    {
-        self.look(nodes, buckets).decide()
-    }
-
-    // 16, or one shared access with the private work that follows: the decision is made, and carried out.
-    #[tactic(auto, unfolding(choice::specs::Choice::pick, crate::specs::Parts::idle_verdict))]
-    fn act(self, nodes: &mut [u32], buckets: &mut [u32]) -> Outcome
-        requires { Small self.header }
-        ensures { left result (tables nodes.new buckets.new) ≡ stepped_by self (tables nodes.old buckets.old) (idle_verdict self) }
-    {
-        if self.worker.place == place::IDLE {
-            return self.refused(Answer::IsIdle);
-        }
-        let decision = self.decision(nodes, buckets);
-        let h = self.header;
-        writes::carry(
-            h.m + h.w + h.k,
-            self.number,
-            h,
-            self.worker,
-            decision,
-            nodes,
-            buckets,
-        )
-    }
-
     // One call of a worker: refused, or what it is asked for.
     pub fn call(self, call: Call, nodes: &mut [u32], buckets: &mut [u32]) -> Outcome
         ensures { left result (tables nodes.new buckets.new) ≡ asked_of self call (tables nodes.old buckets.old) }
@@ -191,7 +123,81 @@ impl Turn {
         }
         match call {
             Call::Start { kind, key } => self.begin(kind, key),
-            Call::Step => self.act(nodes, buckets),
+            Call::Step => Checked { turn: self }.act(nodes, buckets),
         }
+    }
+}
+
+impl Checked {
+    // The one shared word that the step reads at its place, or the node that it found free.
+    #[tactic(auto, unfolding(choice::specs::Choice::pick, crate::specs::Step::word_for, crate::specs::Step::word_at, crate::specs::Step::word_given, crate::specs::Step::asked_at))]
+    fn word_for(self, nodes: &[u32], buckets: &[u32]) -> u32
+        ensures { result ≡ word_for self.turn (tables nodes.now buckets.now) }
+    {
+        let h = self.turn.header;
+        let x = self.turn.worker;
+        let dummies = h.m + h.w;
+        match x.place {
+            place::I1 => scans::free_node(nodes, dummies + 1, dummies + h.k),
+            place::TB => words::bucket(buckets, x.wanted),
+            place::B2 => words::bucket(buckets, tree::parent(x.making)),
+            place::B4 => scans::free_node(nodes, 1, dummies),
+            place::F1 => words::word(nodes, x.start, LINK),
+            place::F2 | place::D4A => words::word(nodes, x.cur, LINK),
+            place::F3 | place::F4 | place::L2 | place::D4B => words::word(nodes, x.prev, LINK),
+            _ => 0,
+        }
+    }
+
+    // At F3 the split key of cur is read in the same step.
+    #[tactic(auto, unfolding(choice::specs::Choice::pick, crate::specs::Step::split_for))]
+    fn split_for(self, nodes: &[u32]) -> u32
+        ensures { result ≡ split_for self.turn nodes.now }
+    {
+        if self.turn.worker.place == place::F3 {
+            words::word(nodes, self.turn.worker.cur, SPLIT_KEY)
+        } else {
+            0
+        }
+    }
+
+    // What the step sees.
+    fn look(self, nodes: &[u32], buckets: &[u32]) -> Seen
+        ensures { result ≡ seen_by self.turn (tables nodes.now buckets.now) }
+    {
+        Seen {
+            header: self.turn.header,
+            worker: self.turn.worker,
+            word: self.word_for(nodes, buckets),
+            split: self.split_for(nodes),
+        }
+    }
+
+    // What the step decides: the shared word is read, and the place's own lines are followed.
+    fn decision(self, nodes: &[u32], buckets: &[u32]) -> Move
+        ensures { result ≡ decided (seen_by self.turn (tables nodes.now buckets.now)) }
+    {
+        self.look(nodes, buckets).decide()
+    }
+
+    // 16, or one shared access with the private work that follows: the decision is made, and carried out.
+    #[tactic(auto, unfolding(choice::specs::Choice::pick, crate::specs::Parts::idle_verdict))]
+    fn act(self, nodes: &mut [u32], buckets: &mut [u32]) -> Outcome
+        ensures { left result (tables nodes.new buckets.new) ≡ stepped_by self.turn (tables nodes.old buckets.old) (idle_verdict self.turn) }
+    {
+        if self.turn.worker.place == place::IDLE {
+            return self.turn.refused(Answer::IsIdle);
+        }
+        let decision = self.decision(nodes, buckets);
+        let h = self.turn.header;
+        writes::carry(
+            h.m + h.w + h.k,
+            self.turn.number,
+            h,
+            self.turn.worker,
+            decision,
+            nodes,
+            buckets,
+        )
     }
 }

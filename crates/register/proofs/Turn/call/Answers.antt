@@ -7,8 +7,8 @@ use Rattle.register.proofs.Turn.call.Goals as goal
 pub returns-in-Err : goal.returns-in-Err
 returns-in-Err c = rw c.refused.ensures (sym (refused_asked _ _ _ _ (sym c.in-Err.ensures)))
 
-pub act-requires : goal.act-requires
-act-requires c = open_small _ _ _ (sym c.in_default.ensures)
+pub invariant_of-act : goal.invariant_of-act
+invariant_of-act c = record { small = open_small _ _ _ (sym c.in_default.ensures) }
 
 pub returns-in-Start : goal.returns-in-Start
 unfolding start_of
