@@ -12,6 +12,7 @@ use lib.ListN.{length, set, drop, replicate, length-set, length-replicate}
 use lib.Seq.{paste, set-get_or, set-set, get_or-set_same}
 use Rattle.std.proofs.lemmas.List.Edits.{paste_all, fill_from_more}
 use borrow.Author.Tests.{le-leb, le-ltb, lt-ltb, ltb-false, ne_eqb}
+use Rattle.std.specs.Prelude.{Ok, Err}
 use Rattle.choice.specs.Choice.{pick}
 use Rattle.choice.proofs.Auto.{pick_false, pick_true}
 use Rattle.choice.proofs.Cases.{by_bool, both}
@@ -19,8 +20,7 @@ use Rattle.words.specs.Words.{Tables, lengths, Left, left}
 use Rattle.names.specs.Names.{goes_on}
 use Rattle.names.specs.declared.Answer.{Answer}
 use Rattle.names.specs.declared.Answer.TheVariants.{Going as GoingOn}
-use Rattle.names.specs.declared.Verdict.{Verdict}
-use Rattle.names.specs.declared.Verdict.TheVariants.{Refused, Pass}
+use Rattle.names.specs.Verdicts.{Verdict}
 use Rattle.header.specs.declared.Header.{Header}
 use Rattle.header.specs.Header.{limit_broken, missing}
 use Rattle.record.specs.declared.Worker.{Worker}
@@ -70,8 +70,8 @@ step_width t ts = by_verdict (step_verdict t (lengths ts))
     by_move (Ended a e) = (sized e t.header).2
 
     by_verdict : (v : Verdict) → (stepped_by t ts v).out.called.header.w ≡ t.header.w
-    by_verdict (Refused a) = refl
-    by_verdict Pass = by_move (decided (seen_by t ts))
+    by_verdict (Err a) = refl
+    by_verdict (Ok _) = by_move (decided (seen_by t ts))
 
 call_width : (t : Turn) (few : Bool) (ts : Tables) → (one_call t few Step ts).out.called.header.w ≡ t.header.w
 unfolding one_call

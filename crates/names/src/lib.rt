@@ -17,26 +17,19 @@ pub const CEILING: u32 = 4294967295;
 // What a call returns, in the scope paper's order of numbers.
 #[derive(Clone, Copy)]
 pub enum Answer {
-    Going,
-    Yes,
-    No,
-    Limit,
-    Short,
-    Damaged,
-    NoWorker,
-    KeyAbove,
-    IsBusy,
-    IsIdle,
-    NoKind,
-    NoKeyNode,
-    NoDummy,
-}
-
-// Whether a call is refused before any word is read.
-#[derive(Clone, Copy)]
-pub enum Verdict {
-    Pass,
-    Refused(Answer),
+    Going = 0,
+    Yes = 1,
+    No = 2,
+    Limit = 10,
+    Short = 11,
+    Damaged = 12,
+    NoWorker = 13,
+    KeyAbove = 14,
+    IsBusy = 15,
+    IsIdle = 16,
+    NoKind = 17,
+    NoKeyNode = 18,
+    NoDummy = 19,
 }
 
 impl Answer {
@@ -44,63 +37,34 @@ impl Answer {
     pub fn number(self) -> u32
         ensures { result ≡ number_of self }
     {
-        match self {
-            Answer::Going => 0,
-            Answer::Yes => 1,
-            Answer::No => 2,
-            Answer::Limit => 10,
-            Answer::Short => 11,
-            Answer::Damaged => 12,
-            Answer::NoWorker => 13,
-            Answer::KeyAbove => 14,
-            Answer::IsBusy => 15,
-            Answer::IsIdle => 16,
-            Answer::NoKind => 17,
-            Answer::NoKeyNode => 18,
-            Answer::NoDummy => 19,
-        }
+        self as u32
     }
 
     // The call is refused: it changes no word, and hands header and record back as they came.
     pub fn refuses(self) -> bool
         ensures { result ≡ refuses self }
     {
-        match self {
-            Answer::Going => false,
-            Answer::Yes => false,
-            Answer::No => false,
-            Answer::Limit => true,
-            Answer::Short => true,
-            Answer::Damaged => true,
-            Answer::NoWorker => true,
-            Answer::KeyAbove => true,
-            Answer::IsBusy => true,
-            Answer::IsIdle => true,
-            Answer::NoKind => true,
-            Answer::NoKeyNode => false,
-            Answer::NoDummy => false,
-        }
+        matches!(
+            self,
+            Answer::Limit
+                | Answer::Short
+                | Answer::Damaged
+                | Answer::NoWorker
+                | Answer::KeyAbove
+                | Answer::IsBusy
+                | Answer::IsIdle
+                | Answer::NoKind
+        )
     }
 
     // The operation has ended.
     pub fn ends(self) -> bool
         ensures { result ≡ ends self }
     {
-        match self {
-            Answer::Going => false,
-            Answer::Yes => true,
-            Answer::No => true,
-            Answer::Limit => false,
-            Answer::Short => false,
-            Answer::Damaged => false,
-            Answer::NoWorker => false,
-            Answer::KeyAbove => false,
-            Answer::IsBusy => false,
-            Answer::IsIdle => false,
-            Answer::NoKind => false,
-            Answer::NoKeyNode => true,
-            Answer::NoDummy => true,
-        }
+        matches!(
+            self,
+            Answer::Yes | Answer::No | Answer::NoKeyNode | Answer::NoDummy
+        )
     }
 
     // Started, stepped or prepared, and nothing ended.

@@ -1,5 +1,5 @@
 -- Preparing: a table of refusals, and what a fresh register holds.
-use Rattle.std.specs.Prelude.{◌*◌, [], ◌∷◌}
+use Rattle.std.specs.Prelude.{◌*◌, [], ◌∷◌, Ok, Err}
 use Rattle.choice.specs.Choice.{pick}
 use Rattle.choice.specs.Table.{first_of}
 use Rattle.words.specs.declared.Lengths.{Lengths}
@@ -7,9 +7,7 @@ use Rattle.words.specs.Words.{Tables, tables, lengths, Left, left, STANDING, TAK
 use Rattle.scans.specs.Scans.{cleared}
 use Rattle.names.specs.declared.Answer.{Answer}
 use Rattle.names.specs.declared.Answer.TheVariants.{Going, Limit, Short}
-use Rattle.names.specs.declared.Verdict.{Verdict}
-use Rattle.names.specs.declared.Verdict.TheVariants.{Pass, Refused}
-use Rattle.names.specs.Verdicts.{refused_if}
+use Rattle.names.specs.Verdicts.{Verdict, refused_if}
 use Rattle.header.specs.declared.Header.{Header}
 use Rattle.header.specs.Header.{fresh, nodes_of, limit_broken, is_short}
 use Rattle.acts.specs.declared.Called.{Called}
@@ -27,7 +25,7 @@ prepare_verdict l lengths =
     (refused_if Limit (limit_broken (fresh_header l))
     ∷ refused_if Short (is_short (fresh_header l) lengths)
     ∷ [])
-    Pass
+    (Ok tt)
 
 -- fewer records than W: 10, then 11
 unfoldable pub too_few_for : Limits → Answer
@@ -38,8 +36,8 @@ abbrev pub fresh_tables : Header → Tables → Tables
 fresh_tables h ts = tables (put (cleared (nodes_of h * 3) ts.nodes) 1 STANDING TAKEN) (store (cleared h.m ts.buckets) 0 1)
 
 abbrev pub prepared_by : Limits → Header → Tables → Verdict → Left Called
-prepared_by l h ts (Refused a) = left (answered a h) ts
-prepared_by l h ts Pass = left (answered Going (fresh_header l)) (fresh_tables (fresh_header l) ts)
+prepared_by l h ts (Err a) = left (answered a h) ts
+prepared_by l h ts (Ok _) = left (answered Going (fresh_header l)) (fresh_tables (fresh_header l) ts)
 
 unfoldable pub prepared : Limits → Header → Tables → Left Called
 prepared l h ts = prepared_by l h ts (prepare_verdict l (lengths ts))

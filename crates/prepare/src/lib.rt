@@ -7,7 +7,7 @@ ghost use Rattle.prepare.specs.Prepare.{fresh_header, prepare_verdict, too_few_f
 
 use acts::Called;
 use header::Header;
-use names::{Answer, Verdict};
+use names::Answer;
 use words::Lengths;
 
 // What a register is asked to hold: M buckets, K key nodes, W workers, load L.
@@ -29,17 +29,17 @@ impl Limits {
 
     // 10, then 11.
     #[tactic(auto, unfolding(crate::specs::Prepare::prepare_verdict, choice::specs::Choice::pick))]
-    fn verdict(self, lengths: Lengths) -> Verdict
+    fn verdict(self, lengths: Lengths) -> Result<(), Answer>
         ensures { result ≡ prepare_verdict self lengths }
     {
         let h = self.fresh_header();
         if h.limit_broken() {
-            return Verdict::Refused(Answer::Limit);
+            return Err(Answer::Limit);
         }
         if h.short(lengths) {
-            return Verdict::Refused(Answer::Short);
+            return Err(Answer::Short);
         }
-        Verdict::Pass
+        Ok(())
     }
 
     // 10, then 11: there are fewer records than the W that is asked for.
@@ -61,17 +61,14 @@ impl Limits {
             nodes: nodes.len(),
             buckets: buckets.len(),
         };
-        let verdict = self.verdict(lengths);
-        match verdict {
-            Verdict::Refused(answer) => Called::answered(answer, header),
-            Verdict::Pass => {
-                let h = self.fresh_header();
-                scans::clear(nodes, (h.nodes() * 3 % 4294967296) as u32);
-                words::put(nodes, 1, words::STANDING, words::TAKEN);
-                scans::clear(buckets, h.m);
-                words::store(buckets, 0, 1);
-                Called::answered(Answer::Going, h)
-            }
+        if let Err(answer) = self.verdict(lengths) {
+            return Called::answered(answer, header);
         }
+        let h = self.fresh_header();
+        scans::clear(nodes, (h.nodes() * 3) as u32);
+        words::put(nodes, 1, words::STANDING, words::TAKEN);
+        scans::clear(buckets, h.m);
+        words::store(buckets, 0, 1);
+        Called::answered(Answer::Going, h)
     }
 }

@@ -10,6 +10,7 @@ use borrow.Author.Tests.{ltb-false}
 use lib.Dec.{ltb}
 use lib.ListN.{length}
 use lib.Seq.{get_or-set_other}
+use Rattle.std.specs.Prelude.{Ok}
 use Rattle.choice.proofs.Cases.{by_bool}
 use Rattle.words.specs.Words.{Tables, lengths, STANDING, TAKEN, word, put, bucket, store}
 use Rattle.words.proofs.Laws.{put_at, put_same, put_node, put_word, put_length, store_same, store_other, store_length}
@@ -22,8 +23,7 @@ use Rattle.header.specs.declared.Header.{Header}
 use Rattle.header.specs.Header.{nodes_of, limit_broken}
 use Rattle.header.proofs.Rows.{limits}
 use Rattle.prepare.specs.declared.Limits.{Limits}
-use Rattle.names.specs.declared.Verdict.{Verdict}
-use Rattle.names.specs.declared.Verdict.TheVariants.{Pass}
+use Rattle.names.specs.Verdicts.{Verdict}
 use Rattle.prepare.specs.Prepare.{fresh_header, prepare_verdict, prepared_by, prepared}
 use Rattle.header.specs.Header.{is_short}
 use Rattle.promises.specs.Fresh.{Fresh, PrepareFresh}
@@ -82,7 +82,7 @@ module _ (l : Limits) (h : Header) (ts : Tables) (r : Room l ts) where
   unfolding ms N
   long = omega (arith, cleared_length (nodes_of (fresh_header l) * 3) ts.nodes, r.some, r.nodes)
 
-  fresh : Fresh l ts (prepared_by l h ts Pass)
+  fresh : Fresh l ts (prepared_by l h ts (Ok tt))
   unfolding ms cs N bucket store
   fresh =
       record {

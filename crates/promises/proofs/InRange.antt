@@ -8,6 +8,7 @@ use native.Mathlib.Decide.{ℕ_discrete}
 use native.Mathlib.Omega.{arith}
 use borrow.Author.Tests.{ltb-false, leb-false}
 use lib.Dec.{ltb}
+use Rattle.std.specs.Prelude.{Ok, Err}
 use Rattle.choice.specs.Choice.{pick}
 use Rattle.choice.proofs.Cases.{both, by_bool}
 use Rattle.scans.specs.Scans.{free_node}
@@ -21,8 +22,7 @@ use Rattle.faults.specs.Faults.{bucket_beyond, node_beyond, worker_damaged}
 use Rattle.record.specs.Worker.{held_key, held_dummy}
 use Rattle.moves.specs.Moves.{held_for, decided}
 use Rattle.register.specs.declared.Turn.{Turn}
-use Rattle.names.specs.declared.Verdict.{Verdict}
-use Rattle.names.specs.declared.Verdict.TheVariants.{Pass, Refused}
+use Rattle.names.specs.Verdicts.{Verdict}
 use Rattle.words.specs.declared.Lengths.{Lengths}
 use Rattle.words.specs.Words.{Tables, lengths, Left, left}
 use Rattle.acts.specs.declared.Outcome.{Outcome}
@@ -70,11 +70,11 @@ module _ (h : Header) (w : ℕ) (x : Worker) (fine : worker_damaged h w x ≡ fa
         making = leb-false h.m x.making (fails _ _ (λ e. rw (e, or_true)) no_bucket);
       }
 
-refused : {X : Type 0} (a : Answer) → Refused a ≡ Pass → X
-refused a e = let z : ◌≡◌ {A = ℕ} 0 1 = cc in absurd (omega arith)
+refused : {X : Type 0} (a : Answer) → ◌≡◌ {A = Verdict} (Err a) (Ok tt) → X
+refused a e = absurd cc
 
 -- the turn passes, so its record is in range
-pub pass_range : (t : Turn) (lengths : Lengths) → step_verdict t lengths ≡ Pass → InRange t.header t.worker
+pub pass_range : (t : Turn) (lengths : Lengths) → step_verdict t lengths ≡ Ok tt → InRange t.header t.worker
 unfolding step_verdict
 pass_range t lengths =
     by_bool P _ (λ _. refused _)
@@ -84,7 +84,7 @@ pass_range t lengths =
     (λ fine. both P _ (refused _) (λ _. in_range t.header t.number t.worker fine)))))
   where
     P : Verdict → Type 0
-    P v = v ≡ Pass → InRange t.header t.worker
+    P v = v ≡ Ok tt → InRange t.header t.worker
 
 -- the nodes that a record holds are in range too
 module _ (h : Header) (x : Worker) (r : InRange h x) where
@@ -124,5 +124,5 @@ unfolding step_of
 by_verdict t ts P no_words words = go (step_verdict t (lengths ts)) refl
   where
     go : (v : Verdict) → step_verdict t (lengths ts) ≡ v → P (stepped_by t ts v)
-    go (Refused a) e = no_words a
-    go Pass e = words (pass_range t (lengths ts) e)
+    go (Err a) e = no_words a
+    go (Ok _) e = words (pass_range t (lengths ts) e)

@@ -5,6 +5,7 @@ use mathlib.Core.Logic.{inl, inr, ◌≢◌}
 use mathlib.Core.Path.{◌≡◌, refl}
 use native.Mathlib.Decide.{dec_le, dec_lt}
 use native.Mathlib.Omega.{arith}
+use Rattle.std.specs.Prelude.{Ok, Err}
 use Rattle.names.specs.declared.Answer.{Answer}
 use Rattle.header.specs.declared.Header.{Header}
 use Rattle.header.specs.Header.{nodes_of}
@@ -13,8 +14,7 @@ use Rattle.acts.specs.declared.Move.{Move}
 use Rattle.acts.specs.declared.Move.TheVariants.{Damaged, Going, Ended}
 use Rattle.moves.specs.Moves.{decided}
 use Rattle.register.specs.declared.Turn.{Turn}
-use Rattle.names.specs.declared.Verdict.{Verdict}
-use Rattle.names.specs.declared.Verdict.TheVariants.{Pass, Refused}
+use Rattle.names.specs.Verdicts.{Verdict}
 use Rattle.words.specs.Words.{Tables, lengths, Left}
 use Rattle.acts.specs.declared.Outcome.{Outcome}
 use Rattle.writes.specs.Writes.{tables_after}
@@ -89,8 +89,8 @@ module _ (t : Turn) (ts us : Tables) (l : Long t.header ts) (m : Long t.header u
       runs = reads_only t ts us agree
 
       go : (d : Verdict) → step_verdict t (lengths ts) ≡ d → Same v (stepped_by t ts d) (stepped_by t us d)
-      go (Refused a) e = inl (refl, refl)
-      go Pass e = rw (← runs.decision) (carried_alike (pass_range t (lengths ts) e) (decided (seen_by t ts)) same v lent)
+      go (Err a) e = inl (refl, refl)
+      go (Ok _) e = rw (← runs.decision) (carried_alike (pass_range t (lengths ts) e) (decided (seen_by t ts)) same v lent)
 
 pub writes_same : WritesSame
 writes_same t ts us agree l m same v = by_lent (is_lent t.header v)

@@ -4,6 +4,7 @@ use Prim.Native.Nat.{ℕ}
 use mathlib.Core.Path.{◌≡◌, refl, sym, ap, ap₂, subst, ◌∙◌}
 use native.Mathlib.Omega.{arith}
 use lib.Dec.{eqb}
+use Rattle.std.specs.Prelude.{Ok, Err}
 use Rattle.choice.specs.Choice.{pick}
 use Rattle.choice.proofs.Cases.{by_eq}
 use Rattle.choice.proofs.Auto.{pick_true, pick_false}
@@ -16,8 +17,7 @@ use Rattle.acts.specs.declared.Move.{Move}
 use Rattle.acts.specs.declared.Move.TheVariants.{Damaged, Going, Ended}
 use Rattle.moves.specs.Moves.{decided}
 use Rattle.register.specs.declared.Turn.{Turn}
-use Rattle.names.specs.declared.Verdict.{Verdict}
-use Rattle.names.specs.declared.Verdict.TheVariants.{Pass, Refused}
+use Rattle.names.specs.Verdicts.{Verdict}
 use Rattle.register.specs.Step.{word_given, asked_at, word_at, word_for, split_for, seen_by, carried}
 use Rattle.register.specs.Calls.{stepped_by, step_verdict, step_of}
 use Rattle.promises.specs.Access as A
@@ -83,8 +83,8 @@ module _ (t : Turn) (ts us : Tables) (agree : Agree (Reads t) t.header ts us) wh
   carried_same (Ended a e) = refl
 
   stepped_same : (v : Verdict) → (stepped_by t ts v).out ≡ (stepped_by t us v).out
-  stepped_same (Refused a) = refl
-  stepped_same Pass = carried_same (decided (seen_by t ts)) ∙ ap (λ (m : Move). (carried t m us).out) decided_same
+  stepped_same (Err a) = refl
+  stepped_same (Ok _) = carried_same (decided (seen_by t ts)) ∙ ap (λ (m : Move). (carried t m us).out) decided_same
 
   outcome_same : (step_of t ts).out ≡ (step_of t us).out
   unfolding step_of

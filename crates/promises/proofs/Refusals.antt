@@ -37,7 +37,7 @@ use Rattle.acts.specs.declared.Move.TheVariants.{Damaged, Going, Ended}
 use Rattle.moves.specs.Moves.{i1, sz, tb, b2, b4, f1, f2, f3, f4, l2, b8, i8, i9, i10, d4a, d4b, d6, decided_at, decided}
 use Rattle.prepare.specs.declared.Limits.{Limits}
 use Rattle.register.specs.declared.Turn.{Turn}
-use Rattle.names.specs.declared.Verdict.{Verdict}
+use Rattle.names.specs.Verdicts.{Verdict}
 use Rattle.register.specs.Step.{word_given, asked_at, word_at, word_for, split_for, seen_by, carried}
 use Rattle.header.specs.Header.{is_short}
 use Rattle.prepare.specs.Prepare.{fresh_header, prepared_by, prepare_verdict, prepared}

@@ -3,6 +3,7 @@
 use Prim.Native.Nat.{ℕ}
 use mathlib.Core.Bool.{true≢false, false≢true}
 use mathlib.Core.Path.{refl, sym, ◌∙◌}
+use Rattle.std.specs.Prelude.{Ok, Err}
 use Rattle.words.specs.Words.{Tables, lengths}
 use Rattle.header.specs.declared.Header.{Header}
 use Rattle.acts.specs.declared.Move.{Move}
@@ -10,8 +11,7 @@ use Rattle.acts.specs.declared.Move.TheVariants.{Damaged, Going, Ended}
 use Rattle.moves.specs.Moves.{decided}
 use Rattle.prepare.specs.declared.Limits.{Limits}
 use Rattle.register.specs.declared.Turn.{Turn}
-use Rattle.names.specs.declared.Verdict.{Verdict}
-use Rattle.names.specs.declared.Verdict.TheVariants.{Pass, Refused}
+use Rattle.names.specs.Verdicts.{Verdict}
 use Rattle.register.specs.Step.{word_for, split_for, seen_by, carried}
 use Rattle.prepare.specs.Prepare.{prepared_by, prepare_verdict, prepared}
 use Rattle.register.specs.Calls.{started_by, start_verdict, start_of}
@@ -33,8 +33,8 @@ step_unchanged t ts =
     (λ _. carried_unchanged t ts (decided (seen_by t ts)) (effect_at t (word_for t ts) (split_for t ts.nodes)).final)
 
 started_unchanged : (t : Turn) (kind key : ℕ) (v : Verdict) → Refusal (started_by t kind key v).called.answer → HandedBack t (started_by t kind key v)
-started_unchanged t kind key (Refused a) r = record { header = refl; worker = refl; steps = refl }
-started_unchanged t kind key Pass r = absurd (false≢true r)
+started_unchanged t kind key (Err a) r = record { header = refl; worker = refl; steps = refl }
+started_unchanged t kind key (Ok _) r = absurd (false≢true r)
 
 pub start_unchanged : StartUnchanged
 unfolding start_of
@@ -43,8 +43,8 @@ start_unchanged t kind key lengths r = started_unchanged t kind key (start_verdi
 prepared_unchanged :
     (l : Limits) (h : Header) (ts : Tables) (v : Verdict) → Refusal (prepared_by l h ts v).out.answer
     → AsBefore h ts (prepared_by l h ts v)
-prepared_unchanged l h ts (Refused a) r = record { tables = refl; header = refl; steps = refl }
-prepared_unchanged l h ts Pass r = absurd (false≢true r)
+prepared_unchanged l h ts (Err a) r = record { tables = refl; header = refl; steps = refl }
+prepared_unchanged l h ts (Ok _) r = absurd (false≢true r)
 
 pub prepare_unchanged : PrepareUnchanged
 unfolding prepared

@@ -1,6 +1,6 @@
 -- Wrong versions of a step, each close to ours, and the inputs at which they are caught.
 -- The register of the inputs has M 4, K 1, W 2, L 1, so N is 7: nodes 1 to 6 are for dummies, node 7 for a key; size may be 2 or 4.
-use Rattle.std.specs.Prelude.{ℕ, zero, suc, ◌+◌, ◌/◌, ◌%◌, Bool, true, false, not, ◌&&◌, List, [], ◌∷◌, ◌≡◌, ltb, eqb}
+use Rattle.std.specs.Prelude.{ℕ, zero, suc, ◌+◌, ◌/◌, ◌%◌, Bool, true, false, not, ◌&&◌, List, [], ◌∷◌, ◌≡◌, ltb, eqb, Ok, Err}
 use Rattle.choice.specs.Choice.{pick}
 use Rattle.words.specs.declared.Lengths.{Lengths}
 use Rattle.words.specs.Words.{Tables, tables, lengths, Left, left, TAKEN, store}
@@ -20,8 +20,7 @@ use Rattle.moves.specs.Moves.{on, decided}
 use Rattle.register.specs.declared.Turn.{Turn}
 use Rattle.acts.specs.declared.Outcome.{Outcome}
 use Rattle.acts.specs.Acts.{handed_back}
-use Rattle.names.specs.declared.Verdict.{Verdict}
-use Rattle.names.specs.declared.Verdict.TheVariants.{Pass, Refused}
+use Rattle.names.specs.Verdicts.{Verdict}
 use Rattle.register.specs.Step.{refused_with, word_for, seen_by, carried}
 use Rattle.register.specs.Calls.{start_of, step_verdict, step_of}
 use Rattle.promises.specs.Access.{place_of}
@@ -143,8 +142,8 @@ unsigned_count h size old = ltb h.l (old / size) && ltb size h.m
 
 -- our step with another way to decide
 abbrev pub deciding_by : (Seen → Move) → Turn → Tables → Verdict → Left Outcome
-deciding_by f t ts (Refused a) = left (refused_with a t) ts
-deciding_by f t ts Pass = carried t (f (seen_by t ts)) ts
+deciding_by f t ts (Err a) = left (refused_with a t) ts
+deciding_by f t ts (Ok _) = carried t (f (seen_by t ts)) ts
 
 -- 2. "Freeing an unlinked node at once": its standing becomes 0 and not the busy set
 abbrev pub freeing : Effect → Effect

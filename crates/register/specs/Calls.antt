@@ -1,13 +1,11 @@
 -- The calls: each a table of refusals in the scope paper's order, a row each, and what is done where no row holds.
-use Rattle.std.specs.Prelude.{ℕ, not, ◌||◌, [], ◌∷◌, ltb, leb, eqb}
+use Rattle.std.specs.Prelude.{ℕ, not, ◌||◌, [], ◌∷◌, ltb, leb, eqb, Ok, Err}
 use Rattle.choice.specs.Table.{first_of}
 use Rattle.words.specs.declared.Lengths.{Lengths}
 use Rattle.words.specs.Words.{Tables, lengths, Left, left}
 use Rattle.names.specs.Names.{IDLE, INSERT, DELETE, KEY_LIMIT}
 use Rattle.names.specs.declared.Answer.TheVariants.{Going, Short, Damaged, NoWorker, KeyAbove, IsBusy, IsIdle, NoKind}
-use Rattle.names.specs.declared.Verdict.{Verdict}
-use Rattle.names.specs.declared.Verdict.TheVariants.{Pass, Refused}
-use Rattle.names.specs.Verdicts.{refused_if}
+use Rattle.names.specs.Verdicts.{Verdict, refused_if}
 use Rattle.header.specs.Header.{busy_with, header_damaged, is_short}
 use Rattle.record.specs.Worker.{begun}
 use Rattle.faults.specs.Faults.{worker_damaged}
@@ -31,12 +29,12 @@ start_verdict t kind key lengths =
     ∷ refused_if Damaged (worker_damaged t.header t.number t.worker)
     ∷ refused_if IsBusy (not (eqb t.worker.place IDLE))
     ∷ [])
-    Pass
+    (Ok tt)
 
 -- starting is private: it sets the busy bit and the record
 abbrev pub started_by : Turn → ℕ → ℕ → Verdict → Outcome
-started_by t kind key (Refused a) = refused_with a t
-started_by t kind key Pass = handed_back Going (busy_with t.number t.header) (begun kind key)
+started_by t kind key (Err a) = refused_with a t
+started_by t kind key (Ok _) = handed_back Going (busy_with t.number t.header) (begun kind key)
 
 -- of the lent tables a start looks at their lengths alone, and it writes neither
 unfoldable pub start_of : Turn → ℕ → ℕ → Lengths → Outcome
@@ -52,11 +50,11 @@ step_verdict t lengths =
     ∷ refused_if Damaged (worker_damaged t.header t.number t.worker)
     ∷ refused_if IsIdle (eqb t.worker.place IDLE)
     ∷ [])
-    Pass
+    (Ok tt)
 
 abbrev pub stepped_by : Turn → Tables → Verdict → Left Outcome
-stepped_by t ts (Refused a) = left (refused_with a t) ts
-stepped_by t ts Pass = carried t (decided (seen_by t ts)) ts
+stepped_by t ts (Err a) = left (refused_with a t) ts
+stepped_by t ts (Ok _) = carried t (decided (seen_by t ts)) ts
 
 unfoldable pub step_of : Turn → Tables → Left Outcome
 step_of t ts = stepped_by t ts (step_verdict t (lengths ts))

@@ -1,5 +1,5 @@
 -- What takes effect in a step, named by the step's own write, what an answer says, and what is in effect and not yet counted.
-use Rattle.std.specs.Prelude.{ℕ, zero, suc, ◌+◌, ◌≤◌, ◌<◌, Bool, true, ◌||◌, List, ◌⊎◌, ◌≢◌, ◌≡◌, eqb, get_or}
+use Rattle.std.specs.Prelude.{ℕ, zero, suc, ◌+◌, ◌≤◌, ◌<◌, Bool, true, ◌||◌, List, ◌⊎◌, ◌≢◌, ◌≡◌, eqb, get_or, Ok, Err}
 use Rattle.choice.specs.Choice.{pick}
 use Rattle.words.specs.Words.{Tables, lengths}
 use Rattle.names.specs.Names.{KEY, EXTRA, INSERT, FIND, DELETE}
@@ -14,8 +14,7 @@ use Rattle.acts.specs.declared.Move.{Move}
 use Rattle.acts.specs.declared.Move.TheVariants.{Damaged, Going, Ended}
 use Rattle.moves.specs.Moves.{decided}
 use Rattle.register.specs.declared.Turn.{Turn}
-use Rattle.names.specs.declared.Verdict.{Verdict}
-use Rattle.names.specs.declared.Verdict.TheVariants.{Pass, Refused}
+use Rattle.names.specs.Verdicts.{Verdict}
 use Rattle.register.specs.Step.{seen_by}
 use Rattle.register.specs.Calls.{step_verdict}
 
@@ -43,8 +42,8 @@ taking x (Going y e) = written x e
 taking x (Ended a e) = written x e
 
 abbrev pub stepping : Turn → Verdict → Move → Event
-stepping t (Refused a) m = nothing
-stepping t Pass m = taking t.worker m
+stepping t (Err a) m = nothing
+stepping t (Ok _) m = taking t.worker m
 
 -- what takes effect in one step; nothing in a refused one
 abbrev pub event_of : Turn → Tables → Event

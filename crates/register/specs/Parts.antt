@@ -1,12 +1,11 @@
 -- The refusals of a call in the parts in which the code runs them. That they make up the tables of a start and of a step is proved (proofs/Laws.antt).
-use Rattle.std.specs.Prelude.{not, ◌||◌, [], ◌∷◌, ltb, leb, eqb}
+use Rattle.std.specs.Prelude.{not, ◌||◌, [], ◌∷◌, ltb, leb, eqb, Ok}
+use Rattle.std.specs.Result.{result_and}
 use Rattle.choice.specs.Table.{first_of}
 use Rattle.words.specs.declared.Lengths.{Lengths}
 use Rattle.names.specs.Names.{IDLE, INSERT, DELETE, KEY_LIMIT}
 use Rattle.names.specs.declared.Answer.TheVariants.{Short, Damaged, NoWorker, KeyAbove, IsBusy, IsIdle, NoKind}
-use Rattle.names.specs.declared.Verdict.{Verdict}
-use Rattle.names.specs.declared.Verdict.TheVariants.{Pass, Refused}
-use Rattle.names.specs.Verdicts.{refused_if}
+use Rattle.names.specs.Verdicts.{Verdict, refused_if}
 use Rattle.header.specs.Header.{header_damaged, is_short}
 use Rattle.faults.specs.Faults.{worker_damaged}
 use Rattle.register.specs.declared.Call.{Call}
@@ -21,7 +20,7 @@ call_verdict t lengths =
     ∷ refused_if Short (is_short t.header lengths)
     ∷ refused_if NoWorker (leb t.header.w t.number)
     ∷ [])
-    Pass
+    (Ok tt)
 
 -- what a start is asked for: 17, 14; a step is asked for nothing that could be refused
 unfoldable pub ask_verdict : Call → Verdict
@@ -30,23 +29,18 @@ ask_verdict (Start kind key) =
     (refused_if NoKind (ltb kind INSERT || ltb DELETE kind)
     ∷ refused_if KeyAbove (ltb KEY_LIMIT key)
     ∷ [])
-    Pass
-ask_verdict Step = Pass
+    (Ok tt)
+ask_verdict Step = Ok tt
 
--- the first of two verdicts that refuses
-abbrev pub followed : Verdict → Verdict → Verdict
-followed (Refused a) v = Refused a
-followed Pass v = v
-
--- all that is checked before the record is asked whether it is idle
+-- all that is checked before the record is asked whether it is idle: the first that refuses
 unfoldable pub open_verdict : Turn → Call → Lengths → Verdict
 open_verdict t c lengths =
-    followed (call_verdict t lengths)
-    (followed (ask_verdict c) (first_of (refused_if Damaged (worker_damaged t.header t.number t.worker) ∷ []) Pass))
+    result_and (call_verdict t lengths)
+    (result_and (ask_verdict c) (first_of (refused_if Damaged (worker_damaged t.header t.number t.worker) ∷ []) (Ok tt)))
 
 -- and then: 15 for a start, 16 for a step
 unfoldable pub busy_verdict : Turn → Verdict
-busy_verdict t = first_of (refused_if IsBusy (not (eqb t.worker.place IDLE)) ∷ []) Pass
+busy_verdict t = first_of (refused_if IsBusy (not (eqb t.worker.place IDLE)) ∷ []) (Ok tt)
 
 unfoldable pub idle_verdict : Turn → Verdict
-idle_verdict t = first_of (refused_if IsIdle (eqb t.worker.place IDLE) ∷ []) Pass
+idle_verdict t = first_of (refused_if IsIdle (eqb t.worker.place IDLE) ∷ []) (Ok tt)

@@ -11,9 +11,9 @@ ghost use Rattle.register.specs.Step.{refused_with, Small, word_for, split_for, 
 use acts::{Called, Move, Outcome};
 use header::Header;
 use moves::Seen;
-use names::{Answer, Verdict, kind, place};
+use names::{Answer, kind, place};
 use record::Worker;
-use words::Lengths;
+use words::{LINK, Lengths, SPLIT_KEY};
 
 // What a worker is called for.
 #[derive(Clone, Copy)]
@@ -32,23 +32,27 @@ pub struct Turn {
     pub worker: Worker,
 }
 
+// A turn that has passed a call's checks, so that its header's numbers are small enough to add: what a step starts from.
+#[derive(Clone, Copy)]
+struct Checked {
+    turn: Turn,
+    ghost small: { Small turn.header },
+}
+
 // 17, 14: a start of an unknown kind, or on a key above the limit.
 #[tactic(auto, unfolding(choice::specs::Choice::pick, crate::specs::Parts::ask_verdict))]
-fn asked(call: Call) -> Verdict
+fn asked(call: Call) -> Result<(), Answer>
     ensures { result ≡ ask_verdict call }
 {
-    match call {
-        Call::Start { kind, key } => {
-            if (kind < kind::INSERT) | (kind::DELETE < kind) {
-                return Verdict::Refused(Answer::NoKind);
-            }
-            if names::KEY_LIMIT < key {
-                return Verdict::Refused(Answer::KeyAbove);
-            }
-            Verdict::Pass
+    if let Call::Start { kind, key } = call {
+        if kind < kind::INSERT || kind::DELETE < kind {
+            return Err(Answer::NoKind);
         }
-        Call::Step => Verdict::Pass,
+        if names::KEY_LIMIT < key {
+            return Err(Answer::KeyAbove);
+        }
     }
+    Ok(())
 }
 
 impl Turn {
@@ -56,46 +60,40 @@ impl Turn {
     fn refused(self, answer: Answer) -> Outcome
         ensures { result ≡ refused_with answer self }
     {
-        let header = self.header;
-        let worker = self.worker;
-        let called = Called::answered(answer, header);
-        Outcome { called, worker }
+        Outcome {
+            called: Called::answered(answer, self.header),
+            worker: self.worker,
+        }
     }
 
     // 12, 11, 13: what a start and a step check first.
     #[tactic(auto, unfolding(choice::specs::Choice::pick, crate::specs::Parts::call_verdict))]
-    fn call_verdict(self, lengths: Lengths) -> Verdict
+    fn call_verdict(self, lengths: Lengths) -> Result<(), Answer>
         ensures { result ≡ call_verdict self lengths }
     {
         if self.header.damaged() {
-            return Verdict::Refused(Answer::Damaged);
+            return Err(Answer::Damaged);
         }
         if self.header.short(lengths) {
-            return Verdict::Refused(Answer::Short);
+            return Err(Answer::Short);
         }
         if self.header.w <= self.number {
-            return Verdict::Refused(Answer::NoWorker);
+            return Err(Answer::NoWorker);
         }
-        Verdict::Pass
+        Ok(())
     }
 
     // Then a start's 17 and 14, and 12: all that is checked before the record is asked whether it is idle.
     #[tactic(auto, unfolding(choice::specs::Choice::pick, crate::specs::Parts::open_verdict))]
-    fn verdict(self, call: Call, lengths: Lengths) -> Verdict
+    fn verdict(self, call: Call, lengths: Lengths) -> Result<(), Answer>
         ensures { result ≡ open_verdict self call lengths }
     {
-        let first = self.call_verdict(lengths);
-        if let Verdict::Refused(answer) = first {
-            return Verdict::Refused(answer);
-        }
-        let then = asked(call);
-        if let Verdict::Refused(answer) = then {
-            return Verdict::Refused(answer);
-        }
+        self.call_verdict(lengths)?;
+        asked(call)?;
         if faults::damaged(self.worker, self.header, self.number) {
-            return Verdict::Refused(Answer::Damaged);
+            return Err(Answer::Damaged);
         }
-        Verdict::Pass
+        Ok(())
     }
 
     // 15, or the worker is busy, with a record that begins. Starting is private: it looks at the tables' lengths alone.
@@ -106,84 +104,10 @@ impl Turn {
         if self.worker.place != place::IDLE {
             return self.refused(Answer::IsBusy);
         }
-        let called = Called::answered(Answer::Going, self.header.busy_with(self.number));
-        let worker = Worker::begun(kind, key);
-        Outcome { called, worker }
-    }
-
-    // The one shared word that the step reads at its place, or the node that it found free.
-    #[tactic(auto, unfolding(choice::specs::Choice::pick, crate::specs::Step::word_for, crate::specs::Step::word_at, crate::specs::Step::word_given, crate::specs::Step::asked_at))]
-    fn word_for(self, nodes: &[u32], buckets: &[u32]) -> u32
-        requires { Small self.header }
-        ensures { result ≡ word_for self (tables nodes.now buckets.now) }
-    {
-        let dummies = self.header.m + self.header.w;
-        let place = self.worker.place;
-        match place {
-            place::I1 => scans::free_node(nodes, dummies + 1, dummies + self.header.k),
-            place::TB => words::bucket(buckets, self.worker.wanted),
-            place::B2 => words::bucket(buckets, tree::parent(self.worker.making)),
-            place::B4 => scans::free_node(nodes, 1, dummies),
-            place::F1 => words::word(nodes, self.worker.start, words::LINK),
-            place::F2 => words::word(nodes, self.worker.cur, words::LINK),
-            place::F3 => words::word(nodes, self.worker.prev, words::LINK),
-            place::F4 => words::word(nodes, self.worker.prev, words::LINK),
-            place::L2 => words::word(nodes, self.worker.prev, words::LINK),
-            place::D4A => words::word(nodes, self.worker.cur, words::LINK),
-            place::D4B => words::word(nodes, self.worker.prev, words::LINK),
-            _ => 0,
+        Outcome {
+            called: Called::answered(Answer::Going, self.header.busy_with(self.number)),
+            worker: Worker::begun(kind, key),
         }
-    }
-
-    // At F3 the split key of cur is read in the same step.
-    #[tactic(auto, unfolding(choice::specs::Choice::pick, crate::specs::Step::split_for))]
-    fn split_for(self, nodes: &[u32]) -> u32
-        ensures { result ≡ split_for self nodes.now }
-    {
-        if self.worker.place == place::F3 {
-            return words::word(nodes, self.worker.cur, words::SPLIT_KEY);
-        }
-        0
-    }
-
-    // What the step sees.
-    fn look(self, nodes: &[u32], buckets: &[u32]) -> Seen
-        requires { Small self.header }
-        ensures { result ≡ seen_by self (tables nodes.now buckets.now) }
-    {
-        let word = self.word_for(nodes, buckets);
-        let split = self.split_for(nodes);
-        let header = self.header;
-        let worker = self.worker;
-        Seen {
-            header,
-            worker,
-            word,
-            split,
-        }
-    }
-
-    // What the step decides: the shared word is read, and the place's own lines are followed.
-    fn decision(self, nodes: &[u32], buckets: &[u32]) -> Move
-        requires { Small self.header }
-        ensures { result ≡ decided (seen_by self (tables nodes.now buckets.now)) }
-    {
-        self.look(nodes, buckets).decide()
-    }
-
-    // 16, or one shared access with the private work that follows: the decision is made, and carried out.
-    #[tactic(auto, unfolding(choice::specs::Choice::pick, crate::specs::Parts::idle_verdict))]
-    fn act(self, nodes: &mut [u32], buckets: &mut [u32]) -> Outcome
-        requires { Small self.header }
-        ensures { left result (tables nodes.new buckets.new) ≡ stepped_by self (tables nodes.old buckets.old) (idle_verdict self) }
-    {
-        if self.worker.place == place::IDLE {
-            return self.refused(Answer::IsIdle);
-        }
-        let decision = self.decision(&nodes[..], &buckets[..]);
-        let h = self.header;
-        let x = self.worker;
-        writes::carry(h.m + h.w + h.k, self.number, h, x, decision, nodes, buckets)
     }
 
     // One call of a worker: refused, or what it is asked for.
@@ -194,13 +118,86 @@ impl Turn {
             nodes: nodes.len(),
             buckets: buckets.len(),
         };
-        let verdict = self.verdict(call, lengths);
-        if let Verdict::Refused(answer) = verdict {
+        if let Err(answer) = self.verdict(call, lengths) {
             return self.refused(answer);
         }
         match call {
             Call::Start { kind, key } => self.begin(kind, key),
-            Call::Step => self.act(nodes, buckets),
+            Call::Step => Checked { turn: self }.act(nodes, buckets),
         }
+    }
+}
+
+impl Checked {
+    // The one shared word that the step reads at its place, or the node that it found free.
+    #[tactic(auto, unfolding(choice::specs::Choice::pick, crate::specs::Step::word_for, crate::specs::Step::word_at, crate::specs::Step::word_given, crate::specs::Step::asked_at))]
+    fn word_for(self, nodes: &[u32], buckets: &[u32]) -> u32
+        ensures { result ≡ word_for self.turn (tables nodes.now buckets.now) }
+    {
+        let h = self.turn.header;
+        let x = self.turn.worker;
+        let dummies = h.m + h.w;
+        match x.place {
+            place::I1 => scans::free_node(nodes, dummies + 1, dummies + h.k),
+            place::TB => words::bucket(buckets, x.wanted),
+            place::B2 => words::bucket(buckets, tree::parent(x.making)),
+            place::B4 => scans::free_node(nodes, 1, dummies),
+            place::F1 => words::word(nodes, x.start, LINK),
+            place::F2 | place::D4A => words::word(nodes, x.cur, LINK),
+            place::F3 | place::F4 | place::L2 | place::D4B => words::word(nodes, x.prev, LINK),
+            _ => 0,
+        }
+    }
+
+    // At F3 the split key of cur is read in the same step.
+    #[tactic(auto, unfolding(choice::specs::Choice::pick, crate::specs::Step::split_for))]
+    fn split_for(self, nodes: &[u32]) -> u32
+        ensures { result ≡ split_for self.turn nodes.now }
+    {
+        if self.turn.worker.place == place::F3 {
+            words::word(nodes, self.turn.worker.cur, SPLIT_KEY)
+        } else {
+            0
+        }
+    }
+
+    // What the step sees.
+    fn look(self, nodes: &[u32], buckets: &[u32]) -> Seen
+        ensures { result ≡ seen_by self.turn (tables nodes.now buckets.now) }
+    {
+        Seen {
+            header: self.turn.header,
+            worker: self.turn.worker,
+            word: self.word_for(nodes, buckets),
+            split: self.split_for(nodes),
+        }
+    }
+
+    // What the step decides: the shared word is read, and the place's own lines are followed.
+    fn decision(self, nodes: &[u32], buckets: &[u32]) -> Move
+        ensures { result ≡ decided (seen_by self.turn (tables nodes.now buckets.now)) }
+    {
+        self.look(nodes, buckets).decide()
+    }
+
+    // 16, or one shared access with the private work that follows: the decision is made, and carried out.
+    #[tactic(auto, unfolding(choice::specs::Choice::pick, crate::specs::Parts::idle_verdict))]
+    fn act(self, nodes: &mut [u32], buckets: &mut [u32]) -> Outcome
+        ensures { left result (tables nodes.new buckets.new) ≡ stepped_by self.turn (tables nodes.old buckets.old) (idle_verdict self.turn) }
+    {
+        if self.turn.worker.place == place::IDLE {
+            return self.turn.refused(Answer::IsIdle);
+        }
+        let decision = self.decision(nodes, buckets);
+        let h = self.turn.header;
+        writes::carry(
+            h.m + h.w + h.k,
+            self.turn.number,
+            h,
+            self.turn.worker,
+            decision,
+            nodes,
+            buckets,
+        )
     }
 }

@@ -6,6 +6,8 @@ use mathlib.Core.Path.{◌≡◌, sym, ap, ◌∙◌}
 use mathlib.Core.List.{List}
 use lib.Dec.{ltb}
 use lib.ListN.{length, get_or, replicate}
+use Rattle.std.specs.Prelude.{Err}
+use Rattle.names.specs.Verdicts.{Verdict}
 use Rattle.choice.proofs.Auto.{pick_true, pick_false}
 use Rattle.choice.proofs.Cases.{by_bool, both}
 use Rattle.names.specs.Names.{number_of, refuses, goes_on}
@@ -18,7 +20,6 @@ use Rattle.tree.specs.Tree.{power_up_to}
 use Rattle.record.specs.declared.Worker.{Worker}
 use Rattle.record.specs.Worker.{idle}
 use Rattle.prepare.specs.declared.Limits.{Limits}
-use Rattle.names.specs.declared.Verdict.TheVariants.{Refused}
 use Rattle.prepare.specs.Prepare.{fresh_header, prepare_verdict, too_few_for, prepared}
 use Rattle.words.specs.Words.{Tables, Left}
 use Rattle.crew.specs.Crew.{Ready, prepare_one, prepare_at}
@@ -49,7 +50,7 @@ limits_broken body o = rw (pick_true (outside 1 10 (get_or body 0 0)) 0 (2 ^ get
 -- a broken limit is refused with 10 by the register, and where there are too few records
 limit_refused : (l : Limits) (h : Header) (ts : Tables) → limit_broken (fresh_header l) ≡ true → (prepared l h ts).out.answer ≡ Limit
 unfolding prepared prepare_verdict
-limit_refused l h ts e = rw (pick_true (limit_broken (fresh_header l)) (Refused Limit) _ e)
+limit_refused l h ts e = rw (pick_true {A = Verdict} (limit_broken (fresh_header l)) (Err Limit) _ e)
 
 refused_at : (l : Limits) (h : Header) (ws : List Worker) (ts : Tables) → limit_broken (fresh_header l) ≡ true → (prepare_at l h ws ts).out.called.answer ≡ Limit
 unfolding prepare_one too_few_for

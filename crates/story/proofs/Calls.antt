@@ -10,6 +10,7 @@ use native.Mathlib.Decide.{ℕ_discrete}
 use lib.Dec.{eqb, ltb, leb}
 use lib.ListN.{get_or, set}
 use borrow.Author.Tests.{eqb-true, eqb-false, leb-false, ltb-false, not-false}
+use Rattle.std.specs.Prelude.{Ok, Err}
 use Rattle.choice.specs.Choice.{pick}
 use Rattle.choice.proofs.Cases.{by_bool}
 use Rattle.choice.proofs.Telling.{clears_or, clears_lt}
@@ -31,8 +32,7 @@ use Rattle.moves.specs.Moves as moves
 use Rattle.moves.specs.Moves.{decided_at, decided}
 use Rattle.writes.specs.Writes.{none, header_after, stored_by}
 use Rattle.writes.specs.Carry.{store_of}
-use Rattle.names.specs.declared.Verdict.{Verdict}
-use Rattle.names.specs.declared.Verdict.TheVariants.{Pass, Refused}
+use Rattle.names.specs.Verdicts.{Verdict}
 use Rattle.register.specs.Step.{refused_with, asked_at, asked_bucket, word_given, word_with, split_for, seen_with}
 use Rattle.header.specs.Header.{is_short}
 use Rattle.register.specs.Calls.{start_verdict, step_verdict}
@@ -53,7 +53,7 @@ use Rattle.story.proofs.Steps.{took, took_is, Turned, ToldBy, Ctx, me, Good, Sta
 use Rattle.story.proofs.Search.{f1_good, f2_good, f3_good, f4_good}
 use Rattle.story.proofs.Buckets.{sz_good, tb_good, b2_good, b4_good, b8_good}
 use Rattle.story.proofs.Operations.{i1_good, i8_good, i9_good, i10_good, l2_good, d4a_good, d4b_good, d6_good}
-use Rattle.story.proofs.Tally.{Tally, Ok, tally_at}
+use Rattle.story.proofs.Tally.{Tally, Ok as IsTallied, tally_at}
 use Rattle.story.proofs.Sound.{header_sound, long_enough, worker_sound}
 
 -- ---- the place decides
@@ -139,8 +139,8 @@ module _ {h : Header} {ws : List Worker} {Ps Qs : Pasts} {w : ℕ} {c m : List �
   why d4b e a q = absurd (omega arith)
   why d6 e a q = absurd (omega arith)
 
-  pub tallied : Busy h w c m (Ps w) x → Ok h x (decided (seen_with (turn h w x) m v))
-  tallied b = subst (Ok h x) (sym (at_place (number b.spot) b.place)) (tally_at h x _ _ b.spot b.place (why b.spot b.place b.at))
+  pub tallied : Busy h w c m (Ps w) x → IsTallied h x (decided (seen_with (turn h w x) m v))
+  tallied b = subst (IsTallied h x) (sym (at_place (number b.spot) b.place)) (tally_at h x _ _ b.spot b.place (why b.spot b.place b.at))
 
 -- ---- the invariant of a state
 abbrev pub InvOf : Shared → Pasts → List ℕ → Type 0
@@ -315,15 +315,15 @@ module _ (s : Shared) (Ps Qs : Pasts) (c : List ℕ) (inv : InvOf s Ps c) where
     M : (ℕ → ℕ) → Verdict → Type 0
     M β' v = Keeps h.m (D v).stores s.value β' → Made s Ps Qs (step w) (D v).answer (laid (D v) β') (D v).event
 
-    refuses_step : (β' : ℕ → ℕ) (a : Answer) → Plainly a → M β' (Refused a)
+    refuses_step : (β' : ℕ → ℕ) (a : Answer) → Plainly a → M β' (Err a)
     unfolding M D
     refuses_step β' a pl = unmade (step w) w a β' pl up
 
-    passes : (β' : ℕ → ℕ) → w < h.w → (worker_of s w).place ≢ IDLE → M β' Pass
+    passes : (β' : ℕ → ℕ) → w < h.w → (worker_of s w).place ≢ IDLE → M β' (Ok tt)
     unfolding M D
     passes β' lt ne = by_fact (inv.fact w lt (omega arith)) (inv.bits w lt (omega arith))
       where
-        by_fact : Fact h w c s.nodes (Ps w) (worker_of s w) → Agrees (worker_of s w) (bit w h.busy) → M β' Pass
+        by_fact : Fact h w c s.nodes (Ps w) (worker_of s w) → Agrees (worker_of s w) (bit w h.busy) → M β' (Ok tt)
         by_fact (inl e) ag = absurd (ne (rw e refl))
         by_fact (inr b) (inl a) = absurd (ne a.0)
         by_fact (inr b) (inr a) = by_move (decided (seen_at s w)) (decided_good z b)
@@ -332,7 +332,7 @@ module _ (s : Shared) (Ps Qs : Pasts) (c : List ℕ) (inv : InvOf s Ps c) where
             z : Ctx h s.workers Ps Qs w c s.nodes s.value
             z = record { inv = inv; lt = lt; busy = a.1; others = λ v _. up v; mine = up w; see = see lt ne }
 
-            by_move : (mv : Move) → Good z (took b.spot (worker_of s w).errand) mv → Final mv → Ok h (worker_of s w) mv
+            by_move : (mv : Move) → Good z (took b.spot (worker_of s w).errand) mv → Final mv → IsTallied h (worker_of s w) mv
                 → Keeps h.m (store_of mv) s.value β' → Made s Ps Qs (step w) (move_done s w mv).answer (laid (move_done s w mv) β') (taking (worker_of s w) mv)
             by_move Damaged g f ty k = absurd g
             by_move (Going y e) g f ty k = record {
@@ -386,7 +386,7 @@ module _ (s : Shared) (Ps Qs : Pasts) (c : List ℕ) (inv : InvOf s Ps c) where
     SM β' v = done s (start w kind k) ≡ SD v → Made s Ps Qs (start w kind k) (SD v).answer (laid (SD v) β') nothing
 
     module _ (β' : ℕ → ℕ) (quiet : Quiet h.m s.value β') where
-      refuses_start : (a : Answer) → Plainly a → SM β' (Refused a)
+      refuses_start : (a : Answer) → Plainly a → SM β' (Err a)
       unfolding SM SD
       refuses_start a pl e = unmade (start w kind k) w a β' pl (λ v. grows v (ℕ_discrete v w)) quiet
         where
@@ -394,7 +394,7 @@ module _ (s : Shared) (Ps Qs : Pasts) (c : List ℕ) (inv : InvOf s Ps c) where
           grows v (yes q) = rw q (upr (λ g. true≢false (sym pl.0 ∙ ap refuses (sym (ap (λ (d : Done). d.answer) e) ∙ g))))
           grows v (no ne) = upo v ne
 
-      started : w < h.w → (INSERT ≤ kind) × (kind ≤ DELETE) → k ≤ KEY_LIMIT → (worker_of s w).place ≡ IDLE → SM β' Pass
+      started : w < h.w → (INSERT ≤ kind) × (kind ≤ DELETE) → k ≤ KEY_LIMIT → (worker_of s w).place ≡ IDLE → SM β' (Ok tt)
       unfolding SM SD
       started lt known low rest e = record {
         chain = c;

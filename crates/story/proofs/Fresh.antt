@@ -32,7 +32,7 @@ use Rattle.header.specs.Rows as rows
 use Rattle.record.specs.declared.Worker.{Worker}
 use Rattle.record.specs.Worker.{idle}
 use Rattle.prepare.specs.declared.Limits.{Limits}
-use Rattle.names.specs.declared.Verdict.{Verdict}
+use Rattle.names.specs.Verdicts.{Verdict}
 use Rattle.prepare.specs.Prepare.{fresh_header, prepare_verdict, too_few_for, prepared_by, prepared}
 use Rattle.header.specs.Header.{is_short}
 use Rattle.words.specs.Words.{Tables, lengths, Left}

@@ -8,13 +8,13 @@ use native.Mathlib.Omega.{arith}
 use lib.Dec.{ltb}
 use lib.ListN.{length, get_or, length-set}
 use borrow.Author.Tests.{le-ltb}
+use Rattle.std.specs.Prelude.{Ok, Err}
 use Rattle.choice.specs.Choice.{pick}
 use Rattle.choice.proofs.Cases.{both}
 use Rattle.words.specs.Words.{Tables, lengths, Left, left, bucket}
 use Rattle.words.proofs.Laws.{store_length, store_same, store_other}
 use Rattle.names.specs.declared.Answer.{Answer}
-use Rattle.names.specs.declared.Verdict.{Verdict}
-use Rattle.names.specs.declared.Verdict.TheVariants.{Pass, Refused}
+use Rattle.names.specs.Verdicts.{Verdict}
 use Rattle.header.specs.declared.Header.{Header}
 use Rattle.header.specs.Header.{nodes_of, limit_broken, is_short}
 use Rattle.header.proofs.Rows.{limits}
@@ -102,7 +102,7 @@ module _ (s : State) (k : Whole s) where
   long = short_is s.header (length s.tables.nodes) (length s.tables.buckets) k.room
 
   -- header, record and words as they came
-  same : (w : ℕ) (b : Answer) → Is s (stored s.workers w (left (refused_with b (turn_of w)) s.tables)) nothing (step_done (shared s) w (Refused b))
+  same : (w : ℕ) (b : Answer) → Is s (stored s.workers w (left (refused_with b (turn_of w)) s.tables)) nothing (step_done (shared s) w (Err b))
   same w b = record { answer = refl; event = refl; header = refl; workers = refl; nodes = refl; values = λ i l. refl; room = refl; enough = length-set s.workers w _; sizes = (refl, refl) }
 
   move_is : (w : ℕ) (m : Move) → Is s (stored s.workers w (carried (turn_of w) m s.tables)) (taking (worker_of (shared s) w) m) (move_done (shared s) w m)
@@ -117,16 +117,16 @@ module _ (s : State) (k : Whole s) where
       record { answer = refl; event = refl; header = refl; workers = refl; nodes = refl; values = q.0; room = q.1; enough = length-set s.workers w _; sizes = (z.0, z.2) }
 
   by_verdict : (w : ℕ) (v : Verdict) → Is s (stored s.workers w (stepped_by (turn_of w) s.tables v)) (stepping (turn_of w) v (decided (seen_by (turn_of w) s.tables))) (step_done (shared s) w v)
-  by_verdict w (Refused b) = same w b
-  by_verdict w Pass = rw (sees (turn_of w) s.tables) (move_is w (decided (seen_at (shared s) w)))
+  by_verdict w (Err b) = same w b
+  by_verdict w (Ok _) = rw (sees (turn_of w) s.tables) (move_is w (decided (seen_at (shared s) w)))
 
   step_is : (w : ℕ) → Is s (leaves s (step w)) (event s (step w)) (done (shared s) (step w))
   unfolding one_call step_of step_verdict pick
   step_is w = rw (few, long) (by_verdict w (step_verdict (turn_of w) (all_there (shared s))))
 
   started_is : (w kind key : ℕ) (v : Verdict) → Is s (stored s.workers w (left (started_by (turn_of w) kind key v) s.tables)) nothing (start_done (shared s) w kind key v)
-  started_is w kind key (Refused b) = record { answer = refl; event = refl; header = refl; workers = refl; nodes = refl; values = λ i l. refl; room = refl; enough = length-set s.workers w _; sizes = (refl, refl) }
-  started_is w kind key Pass = record { answer = refl; event = refl; header = refl; workers = refl; nodes = refl; values = λ i l. refl; room = refl; enough = length-set s.workers w _; sizes = (refl, refl) }
+  started_is w kind key (Err b) = record { answer = refl; event = refl; header = refl; workers = refl; nodes = refl; values = λ i l. refl; room = refl; enough = length-set s.workers w _; sizes = (refl, refl) }
+  started_is w kind key (Ok _) = record { answer = refl; event = refl; header = refl; workers = refl; nodes = refl; values = λ i l. refl; room = refl; enough = length-set s.workers w _; sizes = (refl, refl) }
 
   start_is : (w kind key : ℕ) → Is s (leaves s (start w kind key)) nothing (done (shared s) (start w kind key))
   unfolding one_call start_of start_verdict pick

@@ -1,13 +1,12 @@
 -- A trace: what the story knows of a register between two calls, whatever its buckets lie in. Of a bucket it knows the value alone, by three laws:
 -- a step reads the value of the bucket that its place asks for; a store sets the one bucket's value; every other call leaves the values as they are.
-use Rattle.std.specs.Prelude.{ℕ, suc, ◌*◌, ◌≤◌, ◌<◌, List, ◌≢◌, ◌≡◌, length, set}
+use Rattle.std.specs.Prelude.{ℕ, suc, ◌*◌, ◌≤◌, ◌<◌, List, ◌≢◌, ◌≡◌, length, set, Ok, Err}
 use Rattle.words.specs.declared.Lengths.{Lengths}
 use Rattle.words.specs.Words.{STANDING, TAKEN, word}
 use Rattle.names.specs.Names.{IDLE}
 use Rattle.names.specs.declared.Answer.{Answer}
 use Rattle.names.specs.declared.Answer.TheVariants.{Going as GoingOn}
-use Rattle.names.specs.declared.Verdict.{Verdict}
-use Rattle.names.specs.declared.Verdict.TheVariants.{Pass, Refused}
+use Rattle.names.specs.Verdicts.{Verdict}
 use Rattle.header.specs.declared.Header.{Header}
 use Rattle.header.specs.Header.{nodes_of}
 use Rattle.header.specs.Rows as rows
@@ -63,8 +62,8 @@ abbrev pub move_done : Shared → ℕ → Move → Done
 move_done s w m = done_by s w (hands_back (turn_of s w) m) (leaves_nodes (turn_of s w) m s.nodes) (store_of m) (taking (worker_of s w) m)
 
 abbrev pub step_done : Shared → ℕ → Verdict → Done
-step_done s w (Refused a) = done_by s w (refused_with a (turn_of s w)) s.nodes none nothing
-step_done s w Pass = move_done s w (decided (seen_at s w))
+step_done s w (Err a) = done_by s w (refused_with a (turn_of s w)) s.nodes none nothing
+step_done s w (Ok _) = move_done s w (decided (seen_at s w))
 
 -- the lengths where the buckets are all there, so that of the tables the nodes alone may be short
 abbrev pub all_there : Shared → Lengths

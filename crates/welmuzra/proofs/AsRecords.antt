@@ -8,6 +8,7 @@ use lib.Dec.{ltb}
 use lib.ListN.{length, get_or, set}
 use lib.Seq.{set-get_or}
 use borrow.Author.Tests.{ltb-false}
+use Rattle.std.specs.Prelude.{Ok, Err}
 use Rattle.choice.specs.Choice.{pick}
 use Rattle.choice.proofs.Auto.{pick_false}
 use Rattle.choice.proofs.Cases.{by_bool}
@@ -22,8 +23,7 @@ use Rattle.acts.specs.declared.Called.{Called}
 use Rattle.acts.specs.declared.Outcome.{Outcome}
 use Rattle.acts.specs.Acts.{answered}
 use Rattle.names.specs.declared.Answer.TheVariants.{Limit, Short}
-use Rattle.names.specs.declared.Verdict.{Verdict}
-use Rattle.names.specs.declared.Verdict.TheVariants.{Pass, Refused}
+use Rattle.names.specs.Verdicts.{Verdict}
 use Rattle.prepare.specs.Prepare.{fresh_header, prepare_verdict, too_few_for, prepared_by, prepared}
 use Rattle.header.specs.Header.{is_short}
 use Rattle.promises.specs.Unchanged as un
@@ -67,15 +67,15 @@ abbrev Readied : Limits → Header → List Worker → Left Called → Type 0
 Readied l h ws k = left (readied l.w (header_words h) (packed ws) k.out) k.tables ≡ words_of (made ws (left (wants l.w k.out) k.tables))
 
 -- each way of a preparing by itself: refused with 10, refused with 11, or done
-limits_packed : (l : Limits) (h : Header) (ws : List Worker) (ts : Tables) → Readied l h ws (prepared_by l h ts (Refused Limit))
+limits_packed : (l : Limits) (h : Header) (ws : List Worker) (ts : Tables) → Readied l h ws (prepared_by l h ts (Err Limit))
 unfolding readied filled pick
 limits_packed l h ws ts = refl
 
-short_packed : (l : Limits) (h : Header) (ws : List Worker) (ts : Tables) → Readied l h ws (prepared_by l h ts (Refused Short))
+short_packed : (l : Limits) (h : Header) (ws : List Worker) (ts : Tables) → Readied l h ws (prepared_by l h ts (Err Short))
 unfolding readied filled pick
 short_packed l h ws ts = refl
 
-done_packed : (l : Limits) (h : Header) (ws : List Worker) (ts : Tables) → l.w ≤ length ws → Readied l h ws (prepared_by l h ts Pass)
+done_packed : (l : Limits) (h : Header) (ws : List Worker) (ts : Tables) → l.w ≤ length ws → Readied l h ws (prepared_by l h ts (Ok tt))
 unfolding readied pick
 done_packed l h ws ts enough = rw (cleared_packed l.w ws enough)
 

@@ -15,7 +15,7 @@ use Rattle.header.specs.Header.{limit_broken, missing}
 use Rattle.header.specs.declared.Header.{Header}
 use Rattle.header.proofs.Rows.{limits}
 use Rattle.prepare.specs.declared.Limits.{Limits}
-use Rattle.names.specs.declared.Verdict.{Verdict}
+use Rattle.names.specs.Verdicts.{Verdict}
 use Rattle.prepare.specs.Prepare.{fresh_header, prepare_verdict, prepared_by, prepared}
 use Rattle.words.specs.Words.{Tables, lengths, Left, left}
 use Rattle.acts.specs.declared.Outcome.{Outcome}

@@ -20,7 +20,7 @@ use Rattle.faults.specs.Faults.{unknown_name, worker_damaged}
 use Rattle.words.specs.Words.{Tables, lengths, Left, left}
 use Rattle.acts.specs.declared.Called.{Called}
 use Rattle.acts.specs.declared.Outcome.{Outcome}
-use Rattle.names.specs.declared.Verdict.{Verdict}
+use Rattle.names.specs.Verdicts.{Verdict}
 use Rattle.register.specs.Step.{refused_with}
 use Rattle.prepare.specs.Prepare.{prepared}
 use Rattle.register.specs.declared.Call.{Call}

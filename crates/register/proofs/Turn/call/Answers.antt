@@ -4,11 +4,11 @@ use Rattle.register.specs.Calls.{start_of, step_of}
 use Rattle.register.proofs.Laws.{start_follows, step_follows, open_small, refused_asked}
 use Rattle.register.proofs.Turn.call.Goals as goal
 
-pub returns-in-Refused : goal.returns-in-Refused
-returns-in-Refused c = rw c.refused.ensures (sym (refused_asked _ _ _ _ (sym c.in-Refused.ensures)))
+pub returns-in-Err : goal.returns-in-Err
+returns-in-Err c = rw c.refused.ensures (sym (refused_asked _ _ _ _ (sym c.in-Err.ensures)))
 
-pub act-requires : goal.act-requires
-act-requires c = open_small _ _ _ (sym c.in_default.ensures)
+pub invariant_of-act : goal.invariant_of-act
+invariant_of-act c = record { small = open_small _ _ _ (sym c.in_default.ensures) }
 
 pub returns-in-Start : goal.returns-in-Start
 unfolding start_of
