@@ -10,6 +10,7 @@ use names::Answer;
 use record::Worker;
 
 // The write of one step, by what it does to shared memory.
+// A key node and a dummy are taken by two effects, since an insert begins with the one and not with the other.
 #[derive(Clone, Copy)]
 pub enum Effect {
     Nothing,
@@ -66,6 +67,7 @@ pub enum Effect {
 }
 
 // What is decided: damaged words, or the record that goes on, or the answer that ends the operation, with the write.
+// An enum of its own and no `Result`, since these are three and the definitions name each.
 #[derive(Clone, Copy)]
 pub enum Move {
     Damaged,

@@ -3,12 +3,14 @@
 use Prim.Native.Nat.{ℕ}
 use native.Mathlib.Omega.{arith}
 use mathlib.Core.Path.{◌≡◌, refl}
-use mathlib.Core.Bool.{false, ◌||◌, or_assoc}
-use lib.Dec.{ltb}
+use mathlib.Core.Bool.{Bool, true, false, ◌||◌, ◌&&◌, not, beq, or_assoc}
+use lib.Dec.{ltb, eqb}
+use Rattle.std.proofs.lemmas.Bool.Decides.{nat_tests}
 use Rattle.choice.proofs.Exactly.{Tells}
 use Rattle.choice.proofs.Telling.{tells_as, tells_eq, tells_and, tells_broken, Clears, clears_as, clears_lt, clears_flag, clears_or}
 use Rattle.names.specs.Names.{IDLE}
 use Rattle.record.specs.Worker.{idle}
+use Rattle.record.specs.contracts.WorkerPartialEq.TheImpl as compared
 use Rattle.faults.specs.Faults.{idle_not_zero}
 use Rattle.faults.specs.Rows.{IdleNotZero}
 use Rattle.record.specs.declared.Worker.{Worker}
@@ -77,3 +79,20 @@ unfolding idle_not_zero
 idle_not_zero_lem x =
     tells_as (λ p. (p.0, λ e. p.1 (idle_zero x e))) (λ p. (p.0, λ z. p.1 (zero_idle x p.0 z)))
     (tells_and (tells_eq x.place IDLE) (tells_broken (others_zero x)))
+
+-- ---- the comparison with the idle record, as code makes it
+not_both : (a b : Bool) → not (a && b) ≡ (not a || not b)
+not_both true b = refl
+not_both false b = refl
+
+not_zero : (n : ℕ) → not (eqb n 0) ≡ ltb 0 n
+not_zero n = grind (arith, nat_tests)
+
+not_false : (b : Bool) → not (beq b false) ≡ b
+not_false true = refl
+not_false false = refl
+
+-- a record that stands idle is another than the idle one where one of its other fields is above 0
+pub other_than_idle : (x : Worker) → x.place ≡ IDLE → not ((compared.ghosts).eq x idle) ≡ idle_not_zero x
+unfolding idle_not_zero
+other_than_idle x p = rw p (simp (not_both, not_zero, not_false, or_assoc))

@@ -3,12 +3,11 @@
 use Prim.Native.Nat.{ℕ, ◌≤◌, ◌<◌}
 use native.Mathlib.Omega.{arith}
 use mathlib.Core.Path.{◌≡◌, refl, sym, ap, ◌∙◌}
-use mathlib.Core.Bool.{Bool, true, false, true≢false, false≢true, not, ◌||◌, ◌&&◌, or-true, or-false, and-true, and-false, and_assoc}
-use lib.Dec.{leb, eqb}
-use borrow.Author.Tests.{ne_eqb, le-leb, lt-leb, le-ltb, eqb-true}
-use Rattle.choice.proofs.Telling.{both_true}
-use Rattle.names.specs.Names.{IDLE, F1, L2, I9, I10, KEY, DUMMY, EXTRA, INSERT, DELETE}
-use Rattle.names.specs.Places.{searching, bucket_in_making, insert_only, delete_only, size_remembered, searches, needs_insert, needs_delete, remembers_size}
+use mathlib.Core.Bool.{Bool, true, false, true≢false, false≢true, ◌||◌, or-true, or-false, and-false}
+use lib.Dec.{leb}
+use borrow.Author.Tests.{ne_eqb, le-leb, lt-leb, le-ltb}
+use Rattle.names.specs.Names.{IDLE, F1, L2, I9, I10}
+use Rattle.names.specs.Places.{searching, bucket_in_making, insert_only, delete_only, size_remembered, searches, remembers_size}
 use Rattle.names.proofs.Places.{apart, searches_within, size_within}
 use Rattle.header.specs.Header.{nodes_of}
 use Rattle.header.specs.declared.Header.{Header}
@@ -55,47 +54,6 @@ misfits_within h x l u =
 
 pub misfits_after : (h : Header) (x : Worker) → L2 < x.place → misfits h x ≡ (kind_misfit x || making_astray x || size_misfit h x)
 misfits_after h x l = rw (no_errand x (searches_within x.place ∙ after F1 L2 x.place l), or-false (kind_misfit x))
-
--- ---- the two rows of kind and errand, as the code asks them
-module _ (x : Worker) where
-  -- an insert's place is no delete's
-  pub kind_inserts : needs_insert x.place ≡ true → kind_misfit x ≡ not (eqb x.kind INSERT)
-  unfolding kind_misfit
-  kind_inserts e = rw (apart insert_only delete_only refl x.place e, e, or-false (not (eqb x.kind INSERT)))
-
-  pub kind_deletes : needs_insert x.place ≡ false → needs_delete x.place ≡ true → kind_misfit x ≡ not (eqb x.kind DELETE)
-  unfolding kind_misfit
-  kind_deletes e f = rw (e, f)
-
-  pub kind_neither : needs_insert x.place ≡ false → needs_delete x.place ≡ false → kind_misfit x ≡ false
-  unfolding kind_misfit
-  kind_neither e f = rw (e, f)
-
-  abbrev extra : Bool
-  extra = eqb x.errand EXTRA && not (eqb x.kind DELETE)
-
-  -- L2 is a search's place
-  at_search : (p : ℕ) → (eqb p L2 || searches p) ≡ searches p
-  at_search p = by (eqb p L2) refl
-    where
-      by : (t : Bool) → eqb p L2 ≡ t → (t || searches p) ≡ searches p
-      by true e = rw (eqb-true p L2 e)
-      by false e = refl
-
-  pub errand_extra : extra ≡ true → errand_misfit x ≡ searches x.place
-  unfolding errand_misfit
-  errand_extra e =
-      let b = both_true (eqb x.errand EXTRA) (not (eqb x.kind DELETE)) e in
-      rw (b.1, eqb-true x.errand EXTRA b.0, and-true (eqb x.place L2), and-true (searches x.place), and-true (searches x.place))
-      (at_search x.place)
-
-  pub errand_placing : extra ≡ false → x.place ≡ L2 → errand_misfit x ≡ not (eqb x.errand DUMMY || (eqb x.errand KEY && eqb x.kind INSERT))
-  unfolding errand_misfit
-  errand_placing e p = rw (p, e, or-false (not (eqb x.errand DUMMY || (eqb x.errand KEY && eqb x.kind INSERT))))
-
-  pub errand_other : extra ≡ false → (x.place ≡ L2 → ⊥) → errand_misfit x ≡ false
-  unfolding errand_misfit
-  errand_other e p = rw (ne_eqb x.place L2 p, and_assoc (searches x.place) (eqb x.errand EXTRA) (not (eqb x.kind DELETE)), e, and-false (searches x.place))
 
 -- ---- all ten rows, in the definition's order: name, key, bucket, node, bit, idle, and the four of the place
 abbrev rows : Bool → Bool → Bool → Bool → Bool → Bool → Bool → Bool

@@ -1,8 +1,9 @@
 // The faults of a worker's record, row by row of the scope paper's "12 is given exactly when".
+// Every step asks them, so `|` and `&` join the numbers' tests, which needs no branch; `&&` stands before what costs more.
 #![tactic(auto)]
 
 ghost use Rattle.std.specs.Prelude.{◌≡◌, ltb};
-ghost use Rattle.faults.specs.Faults.{unknown_name, bucket_beyond, node_beyond, bit_disagrees, idle_not_zero, kind_misfit, errand_misfit, making_astray, size_misfit, misfits, worker_damaged};
+ghost use Rattle.faults.specs.Faults.{unknown_name, bucket_beyond, node_beyond, bit_disagrees, kind_misfit, errand_misfit, making_astray, size_misfit, misfits, worker_damaged};
 
 use header::Header;
 use names::{errand, kind, place};
@@ -23,7 +24,7 @@ fn unknown_name(x: Worker) -> bool
     (place::D6 < x.place)
         | (errand::EXTRA < x.errand)
         | (kind::DELETE < x.kind)
-        | ((x.kind == 0) & !(x.place == place::IDLE))
+        | ((x.kind == 0) & (x.place != place::IDLE))
 }
 
 #[tactic(auto, unfolding(crate::specs::Faults::bucket_beyond))]
@@ -45,94 +46,65 @@ fn node_beyond(x: Worker, n: u64) -> bool
         | above(n, x.dummy)
 }
 
+// An idle worker's bit is set, or a busy one's is not.
 #[tactic(auto, unfolding(crate::specs::Faults::bit_disagrees))]
 fn bit_disagrees(x: Worker, h: Header, w: u32) -> bool
     ensures { result ≡ bit_disagrees h w x }
 {
-    let busy = sets::has(h.busy, w);
-    (busy & (x.place == place::IDLE)) | (!busy & !(x.place == place::IDLE))
+    sets::has(h.busy, w) == (x.place == place::IDLE)
 }
 
-#[tactic(auto, unfolding(crate::specs::Faults::idle_not_zero))]
-fn idle_not_zero(x: Worker) -> bool
-    ensures { result ≡ idle_not_zero x }
-{
-    if x.place == place::IDLE {
-        return (0 < x.errand)
-            | (0 < x.kind)
-            | (0 < x.key)
-            | (0 < x.wanted)
-            | (0 < x.making)
-            | (0 < x.size)
-            | (0 < x.start)
-            | (0 < x.prev)
-            | (0 < x.cur)
-            | (0 < x.next)
-            | x.marked
-            | (0 < x.held)
-            | (0 < x.dummy)
-            | (0 < x.steps);
-    }
-    false
-}
-
+#[tactic(auto, using(names::proofs::Places::insert_steps, names::proofs::Places::delete_steps), unfolding(crate::specs::Faults::kind_misfit))]
 fn kind_misfit(x: Worker) -> bool
     ensures { result ≡ kind_misfit x }
 {
-    if (x.place == place::I1) | ((place::I8 <= x.place) & (x.place <= place::I10)) {
-        return !(x.kind == kind::INSERT);
+    match x.place {
+        place::I1 | place::I8..=place::I10 => x.kind != kind::INSERT,
+        place::D4A..=place::D6 => x.kind != kind::DELETE,
+        _ => false,
     }
-    if (place::D4A <= x.place) & (x.place <= place::D6) {
-        return !(x.kind == kind::DELETE);
-    }
-    false
 }
 
+#[tactic(auto, using(names::proofs::Places::searches_within), unfolding(crate::specs::Faults::errand_misfit))]
 fn errand_misfit(x: Worker) -> bool
     ensures { result ≡ errand_misfit x }
 {
-    if (x.errand == errand::EXTRA) & !(x.kind == kind::DELETE) {
-        return (place::F1 <= x.place) & (x.place <= place::L2);
-    }
-    if x.place == place::L2 {
-        return !((x.errand == errand::DUMMY)
-            | ((x.errand == errand::KEY) & (x.kind == kind::INSERT)));
-    }
-    false
+    let dummy_or_insert = (x.errand == errand::DUMMY)
+        | ((x.errand == errand::KEY) & (x.kind == kind::INSERT));
+    let extra = matches!(x.place, place::F1..=place::L2) & (x.errand == errand::EXTRA);
+    ((x.place == place::L2) & !dummy_or_insert) | (extra & (x.kind != kind::DELETE))
 }
 
+#[tactic(auto, using(names::proofs::Places::makes_at), unfolding(crate::specs::Faults::making_astray))]
 fn making_astray(x: Worker) -> bool
     ensures { result ≡ making_astray x }
 {
-    if (x.place == place::B2) | (x.place == place::B4) | (x.place == place::B8) {
-        return (x.making == 0) | !tree::on_path(x.wanted, x.making);
-    }
-    false
+    matches!(x.place, place::B2 | place::B4 | place::B8)
+        && ((x.making == 0) | !tree::on_path(x.wanted, x.making))
 }
 
+#[tactic(auto, using(names::proofs::Places::size_within), unfolding(crate::specs::Faults::size_misfit))]
 fn size_misfit(x: Worker, h: Header) -> bool
     ensures { result ≡ size_misfit h x }
 {
-    if (place::I9 <= x.place) & (x.place <= place::I10) {
-        return !tree::power_up_to(h.m, x.size) | ((x.place == place::I10) & (h.m <= x.size));
-    }
-    false
+    matches!(x.place, place::I9 | place::I10)
+        && (!tree::power_up_to(h.m, x.size) | ((x.place == place::I10) & (h.m <= x.size)))
 }
 
 // A record that does not fit its place: only the rows that speak of the place are looked at.
+#[tactic(auto, using(crate::proofs::Laws::misfits_before, crate::proofs::Laws::misfits_within, crate::proofs::Laws::misfits_after))]
 fn misfit(x: Worker, h: Header) -> bool
     ensures { result ≡ misfits h x }
 {
-    if x.place < place::F1 {
-        return kind_misfit(x) | making_astray(x);
+    match x.place {
+        place::IDLE..place::F1 => kind_misfit(x) | making_astray(x),
+        place::F1..=place::L2 => errand_misfit(x),
+        _ => kind_misfit(x) | making_astray(x) | size_misfit(x, h),
     }
-    if x.place <= place::L2 {
-        return errand_misfit(x);
-    }
-    kind_misfit(x) | making_astray(x) | size_misfit(x, h)
 }
 
-// 12, the record's own part: a row that holds ends it, and an idle record has few.
+// 12, the record's own part: a row that holds ends it, and an idle record is all zeros.
+#[tactic(auto, using(crate::proofs::Laws::damaged_first, crate::proofs::Laws::damaged_idle, crate::proofs::Laws::damaged_busy, crate::proofs::Idle::other_than_idle))]
 pub fn damaged(x: Worker, h: Header, w: u32) -> bool
     ensures { result ≡ worker_damaged h w x }
 {
@@ -140,7 +112,7 @@ pub fn damaged(x: Worker, h: Header, w: u32) -> bool
         return true;
     }
     if x.place == place::IDLE {
-        return idle_not_zero(x);
+        return x != Worker::idle();
     }
     if unknown_name(x) | (names::KEY_LIMIT < x.key) | node_beyond(x, h.nodes()) {
         return true;

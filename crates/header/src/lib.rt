@@ -53,14 +53,14 @@ impl Header {
     pub fn counted_up(self) -> Header
         ensures { result ≡ counted_up self }
     {
-        self.counting(std::num::wrapping_add_u32(self.count, 1))
+        self.counting(self.count.wrapping_add(1))
     }
 
     // One key less is counted, which may be before its insert has counted it.
     pub fn counted_down(self) -> Header
         ensures { result ≡ counted_down self }
     {
-        self.counting(std::num::wrapping_sub_u32(self.count, 1))
+        self.counting(self.count.wrapping_sub(1))
     }
 
     // The worker begins an operation.
@@ -96,9 +96,9 @@ impl Header {
         ensures { result ≡ limit_broken self }
     {
         !tree::power_up_to(1024, self.m)
-            | ((self.k < 1) | (4096 < self.k))
-            | ((self.w < 1) | (16 < self.w))
-            | ((self.l < 1) | (8 < self.l))
+            | !matches!(self.k, 1..=4096)
+            | !matches!(self.w, 1..=16)
+            | !matches!(self.l, 1..=8)
     }
 
     #[tactic(auto, unfolding(crate::specs::Header::size_broken))]
@@ -113,10 +113,9 @@ impl Header {
     fn busy_beyond(self) -> bool
         ensures { result ≡ busy_beyond self }
     {
-        if 32 <= self.w {
-            return false;
-        }
-        1u64 << self.w <= self.busy as u64
+        self.busy
+            .checked_shr(self.w)
+            .is_some_and(|beyond| 0 < beyond)
     }
 
     // 12, the header's part.
@@ -154,9 +153,8 @@ impl Header {
     pub fn doubles(self, size: u32, old: u32) -> bool
         ensures { result ≡ doubles self size old }
     {
-        if size == 0 {
-            return false;
-        }
-        (old < 2147483648) & (self.l < old / size) & (size < self.m)
+        (old < 2147483648)
+            & old.checked_div(size).is_some_and(|load| self.l < load)
+            & (size < self.m)
     }
 }

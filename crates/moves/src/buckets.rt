@@ -1,18 +1,25 @@
 // The places that find a bucket and make it: TB, B2, B4, B8.
 ghost use Rattle.std.specs.Prelude.{◌≡◌};
-ghost use Rattle.moves.specs.Moves.{tb, b2, b4, b8};
+ghost use Rattle.moves.specs.Moves.{bad_bucket, tb, b2, b4, b8};
 
-use crate::{Seen, on};
+use crate::{Seen, ended, going, on};
 use acts::{Effect, Move};
 use names::{Answer, errand, kind, place};
 
 impl Seen {
+    // A bucket word read above N.
+    fn bad_bucket(self) -> bool
+        ensures { result ≡ bad_bucket self }
+    {
+        self.header.nodes() < self.word as u64
+    }
+
     #[tactic(auto, unfolding(choice::specs::Choice::pick, crate::specs::Moves::tb))]
     pub(super) fn tb(self) -> Move
         ensures { result ≡ tb self }
     {
         let x = self.worker;
-        if self.header.nodes() < self.word as u64 {
+        if self.bad_bucket() {
             return Move::Damaged;
         }
         if self.word == 0 {
@@ -30,7 +37,7 @@ impl Seen {
         ensures { result ≡ b2 self }
     {
         let x = self.worker;
-        if self.header.nodes() < self.word as u64 {
+        if self.bad_bucket() {
             return Move::Damaged;
         }
         if self.word == 0 {
@@ -49,19 +56,16 @@ impl Seen {
             if (x.kind == kind::INSERT) & (x.held == 0) {
                 return Move::Damaged;
             }
-            return Move::Ended {
-                answer: Answer::NoDummy,
-                effect: Effect::Nothing,
-            };
+            return ended(Answer::NoDummy, Effect::Nothing);
         }
         let effect = Effect::TakeDummy {
             node: free,
             split: split::dummy_key(x.making),
         };
-        Move::Going {
-            worker: x.with_dummy(free).on_errand(errand::DUMMY).to(place::F1),
+        going(
+            x.with_dummy(free).on_errand(errand::DUMMY).to(place::F1),
             effect,
-        }
+        )
     }
 
     #[tactic(auto, unfolding(choice::specs::Choice::pick, crate::specs::Moves::b8))]
@@ -78,16 +82,9 @@ impl Seen {
         };
         let made = x.with_dummy(0);
         if x.making == x.wanted {
-            return Move::Going {
-                worker: made.to(place::TB),
-                effect,
-            };
+            return going(made.to(place::TB), effect);
         }
-        Move::Going {
-            worker: made
-                .to_make(tree::next_down(x.wanted, x.making))
-                .to(place::B2),
-            effect,
-        }
+        let next = tree::next_down(x.wanted, x.making);
+        going(made.to_make(next).to(place::B2), effect)
     }
 }

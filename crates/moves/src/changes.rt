@@ -2,7 +2,7 @@
 ghost use Rattle.std.specs.Prelude.{◌≡◌};
 ghost use Rattle.moves.specs.Moves.{l2, placed, i1, sz, i8, i9, i10, d4a, d4b, d6};
 
-use crate::{Seen, held_for, is_to, on, remainder};
+use crate::{Seen, ended, going, held_for, is_to, on};
 use acts::{Effect, Move};
 use names::{Answer, errand, place};
 
@@ -21,13 +21,11 @@ impl Seen {
         if itself | is_to(self.word, x.cur) {
             return self.placed(held);
         }
-        Move::Going {
-            worker: x.to(place::F1),
-            effect: Effect::Aim {
-                node: held,
-                next: x.cur,
-            },
-        }
+        let aim = Effect::Aim {
+            node: held,
+            next: x.cur,
+        };
+        going(x.to(place::F1), aim)
     }
 
     // L2 done: a dummy goes to B8; an insert takes effect here.
@@ -41,15 +39,9 @@ impl Seen {
             next: x.cur,
             prev: x.prev,
         };
-        if x.errand == errand::DUMMY {
-            return Move::Going {
-                worker: x.to(place::B8),
-                effect,
-            };
-        }
-        Move::Going {
-            worker: x.holding(0).to(place::I8),
-            effect,
+        match x.errand {
+            errand::DUMMY => going(x.to(place::B8), effect),
+            _ => going(x.holding(0).to(place::I8), effect),
         }
     }
 
@@ -60,27 +52,23 @@ impl Seen {
         let x = self.worker;
         let free = self.word;
         if free == 0 {
-            return Move::Ended {
-                answer: Answer::NoKeyNode,
-                effect: Effect::Nothing,
-            };
+            return ended(Answer::NoKeyNode, Effect::Nothing);
         }
         let effect = Effect::TakeKey {
             node: free,
             split: split::regular_key(x.key),
         };
-        Move::Going {
-            worker: x.holding(free).to(place::SZ),
-            effect,
-        }
+        going(x.holding(free).to(place::SZ), effect)
     }
 
+    // The key's bucket is its remainder by the size, and by 0 the key itself.
     #[tactic(auto, unfolding(crate::specs::Moves::sz))]
     pub(super) fn sz(self) -> Move
         ensures { result ≡ sz self }
     {
         let x = self.worker;
-        on(x.wanting(remainder(x.key, self.header.size)).to(place::TB))
+        let bucket = x.key.checked_rem(self.header.size).unwrap_or(x.key);
+        on(x.wanting(bucket).to(place::TB))
     }
 
     #[tactic(auto, unfolding(crate::specs::Moves::i8))]
@@ -100,34 +88,21 @@ impl Seen {
         let up = h.counted_up();
         let effect = Effect::Count { value: up.count };
         if h.doubles(x.size, h.count) {
-            return Move::Going {
-                worker: x.to(place::I10),
-                effect,
-            };
+            return going(x.to(place::I10), effect);
         }
-        Move::Ended {
-            answer: Answer::Yes,
-            effect,
-        }
+        ended(Answer::Yes, effect)
     }
 
     #[tactic(auto, unfolding(choice::specs::Choice::pick, crate::specs::Moves::i10))]
     pub(super) fn i10(self) -> Move
         ensures { result ≡ i10 self }
     {
-        let x = self.worker;
-        if self.header.size == x.size {
-            return Move::Ended {
-                answer: Answer::Yes,
-                effect: Effect::Size {
-                    value: std::num::wrapping_add_u32(x.size, x.size),
-                },
-            };
+        let read = self.worker.size;
+        if self.header.size == read {
+            let value = read.wrapping_mul(2);
+            return ended(Answer::Yes, Effect::Size { value });
         }
-        Move::Ended {
-            answer: Answer::Yes,
-            effect: Effect::Nothing,
-        }
+        ended(Answer::Yes, Effect::Nothing)
     }
 
     #[tactic(auto, unfolding(choice::specs::Choice::pick, crate::specs::Moves::d4a))]
@@ -135,17 +110,15 @@ impl Seen {
         ensures { result ≡ d4a self }
     {
         let x = self.worker;
-        if (x.cur == 0) | self.bad_link() {
+        if self.bad_read(x.cur) {
             return Move::Damaged;
         }
         if is_to(self.word, x.next) {
-            return Move::Going {
-                worker: x.to(place::D4B),
-                effect: Effect::Mark {
-                    node: x.cur,
-                    next: x.next,
-                },
+            let mark = Effect::Mark {
+                node: x.cur,
+                next: x.next,
             };
+            return going(x.to(place::D4B), mark);
         }
         on(x.on_errand(errand::KEY).to(place::F1))
     }
@@ -155,22 +128,14 @@ impl Seen {
         ensures { result ≡ d4b self }
     {
         let x = self.worker;
-        if (x.prev == 0) | self.bad_link() {
+        if self.bad_read(x.prev) {
             return Move::Damaged;
         }
         if is_to(self.word, x.cur) {
             if x.cur == 0 {
                 return Move::Damaged;
             }
-            return Move::Going {
-                worker: x.to(place::D6),
-                effect: Effect::Unlink {
-                    prev: x.prev,
-                    next: x.next,
-                    node: x.cur,
-                    busy: self.header.busy,
-                },
-            };
+            return going(x.to(place::D6), self.unlink());
         }
         on(x.on_errand(errand::EXTRA).to(place::F1))
     }
@@ -180,9 +145,6 @@ impl Seen {
         ensures { result ≡ d6 self }
     {
         let down = self.header.counted_down();
-        Move::Ended {
-            answer: Answer::Yes,
-            effect: Effect::Count { value: down.count },
-        }
+        ended(Answer::Yes, Effect::Count { value: down.count })
     }
 }

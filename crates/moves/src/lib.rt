@@ -1,7 +1,7 @@
 // What one step does, place by place, decided from numbers alone: the header, the record and the word that the step read.
 #![tactic(auto)]
 
-ghost use Rattle.std.specs.Prelude.{◌≡◌, ◌%◌};
+ghost use Rattle.std.specs.Prelude.{◌≡◌, ◌==◌, ◌||◌};
 ghost use Rattle.words.specs.Words.{is_to};
 ghost use Rattle.moves.specs.Moves.{on, bad_link, want_of, held_for, not_found, found, found_key, comes, f1, f2, f3, judged, f4, decided};
 
@@ -9,6 +9,7 @@ use acts::{Effect, Move};
 use header::Header;
 use names::{Answer, errand, kind, place};
 use record::Worker;
+use std::cmp::Ordering;
 
 mod buckets;
 mod changes;
@@ -20,16 +21,6 @@ pub struct Seen {
     pub worker: Worker,
     pub word: u32,
     pub split: u32,
-}
-
-// x mod d, and x where d is 0.
-fn remainder(x: u32, d: u32) -> u32
-    ensures { result ≡ x % d }
-{
-    if d == 0 {
-        return x;
-    }
-    x % d
 }
 
 // The link word is (0, n): unmarked, with n its next node. Compared in 64 bits, so that no number is cut.
@@ -45,10 +36,10 @@ fn is_to(link: u32, n: u32) -> bool
 fn want_of(x: Worker) -> u32
     ensures { result ≡ want_of x }
 {
-    if x.errand == errand::DUMMY {
-        return split::dummy_key(x.making);
+    match x.errand {
+        errand::DUMMY => split::dummy_key(x.making),
+        _ => split::regular_key(x.key),
     }
-    split::regular_key(x.key)
 }
 
 // The node that L2 puts on the chain.
@@ -56,20 +47,31 @@ fn want_of(x: Worker) -> u32
 fn held_for(x: Worker) -> u32
     ensures { result ≡ held_for x }
 {
-    if x.errand == errand::DUMMY {
-        return x.dummy;
+    match x.errand {
+        errand::DUMMY => x.dummy,
+        _ => x.held,
     }
-    x.held
+}
+
+// The operation goes on with this record.
+fn going(worker: Worker, effect: Effect) -> Move
+    ensures { result ≡ Move.Going worker effect }
+{
+    Move::Going { worker, effect }
 }
 
 // The operation goes on with this record, and nothing is written.
 fn on(worker: Worker) -> Move
     ensures { result ≡ on worker }
 {
-    Move::Going {
-        worker,
-        effect: Effect::Nothing,
-    }
+    going(worker, Effect::Nothing)
+}
+
+// The operation ends with this answer.
+fn ended(answer: Answer, effect: Effect) -> Move
+    ensures { result ≡ Move.Ended answer effect }
+{
+    Move::Ended { answer, effect }
 }
 
 // The search ended without the wanted split key.
@@ -77,21 +79,10 @@ fn on(worker: Worker) -> Move
 fn not_found(x: Worker, effect: Effect) -> Move
     ensures { result ≡ not_found x effect }
 {
-    if x.errand == errand::EXTRA {
-        return Move::Going {
-            worker: x.to(place::D6),
-            effect,
-        };
-    }
-    if (x.errand == errand::DUMMY) | (x.kind == kind::INSERT) {
-        return Move::Going {
-            worker: x.to(place::L2),
-            effect,
-        };
-    }
-    Move::Ended {
-        answer: Answer::No,
-        effect,
+    match (x.errand, x.kind) {
+        (errand::EXTRA, _) => going(x.to(place::D6), effect),
+        (errand::DUMMY, _) | (_, kind::INSERT) => going(x.to(place::L2), effect),
+        _ => ended(Answer::No, effect),
     }
 }
 
@@ -100,18 +91,14 @@ fn not_found(x: Worker, effect: Effect) -> Move
 fn found(x: Worker) -> Move
     ensures { result ≡ found x }
 {
-    if x.errand == errand::EXTRA {
-        return on(x.to(place::D6));
-    }
-    if x.errand == errand::KEY {
-        return found_key(x);
-    }
-    if x.dummy == 0 {
-        return Move::Damaged;
-    }
-    Move::Going {
-        worker: x.with_dummy(x.cur).to(place::B8),
-        effect: Effect::Free { node: x.dummy },
+    match x.errand {
+        errand::EXTRA => on(x.to(place::D6)),
+        errand::KEY => found_key(x),
+        _ if x.dummy == 0 => Move::Damaged,
+        _ => going(
+            x.with_dummy(x.cur).to(place::B8),
+            Effect::Free { node: x.dummy },
+        ),
     }
 }
 
@@ -120,22 +107,12 @@ fn found(x: Worker) -> Move
 fn found_key(x: Worker) -> Move
     ensures { result ≡ found_key x }
 {
-    if x.kind == kind::INSERT {
-        if x.held == 0 {
-            return Move::Damaged;
-        }
-        return Move::Ended {
-            answer: Answer::No,
-            effect: Effect::Nothing,
-        };
+    match x.kind {
+        kind::INSERT if x.held == 0 => Move::Damaged,
+        kind::INSERT => ended(Answer::No, Effect::Nothing),
+        kind::FIND => ended(Answer::Yes, Effect::Nothing),
+        _ => on(x.to(place::D4A)),
     }
-    if x.kind == kind::FIND {
-        return Move::Ended {
-            answer: Answer::Yes,
-            effect: Effect::Nothing,
-        };
-    }
-    on(x.to(place::D4A))
 }
 
 // The search comes to cur, after prev: the end of the chain, or F2.
@@ -147,10 +124,7 @@ fn comes(x: Worker, prev: u32, cur: u32, effect: Effect) -> Move
     if cur == 0 {
         return not_found(there, effect);
     }
-    Move::Going {
-        worker: there.to(place::F2),
-        effect,
-    }
+    going(there.to(place::F2), effect)
 }
 
 impl Seen {
@@ -162,12 +136,32 @@ impl Seen {
         self.header.nodes() * 2 + 1 < self.word as u64
     }
 
+    // The link is to be read from this node: there is none, or what was read is above 2N + 1.
+    fn bad_read(self, node: u32) -> bool
+        ensures { result ≡ (node == 0 || bad_link self) }
+    {
+        (node == 0) | self.bad_link()
+    }
+
+    // cur leaves the chain: prev's link goes to next.
+    fn unlink(self) -> Effect
+        ensures { let x = self.worker in result ≡ Effect.Unlink x.prev x.next x.cur self.header.busy }
+    {
+        let x = self.worker;
+        Effect::Unlink {
+            prev: x.prev,
+            next: x.next,
+            node: x.cur,
+            busy: self.header.busy,
+        }
+    }
+
     #[tactic(auto, unfolding(choice::specs::Choice::pick, crate::specs::Moves::f1))]
     fn f1(self) -> Move
         ensures { result ≡ f1 self }
     {
         let x = self.worker;
-        if (x.start == 0) | self.bad_link() {
+        if self.bad_read(x.start) {
             return Move::Damaged;
         }
         comes(x, x.start, self.word / 2, Effect::Nothing)
@@ -178,7 +172,7 @@ impl Seen {
         ensures { result ≡ f2 self }
     {
         let x = self.worker;
-        if (x.cur == 0) | self.bad_link() {
+        if self.bad_read(x.cur) {
             return Move::Damaged;
         }
         on(x.reading(self.word).to(place::F3))
@@ -189,7 +183,7 @@ impl Seen {
         ensures { result ≡ f3 self }
     {
         let x = self.worker;
-        if (x.prev == 0) | self.bad_link() {
+        if self.bad_read(x.prev) {
             return Move::Damaged;
         }
         if is_to(self.word, x.cur) {
@@ -210,14 +204,11 @@ impl Seen {
         if x.cur == 0 {
             return Move::Damaged;
         }
-        let want = want_of(x);
-        if self.split < want {
-            return comes(x, x.cur, x.next, Effect::Nothing);
+        match self.split.cmp(&want_of(x)) {
+            Ordering::Less => comes(x, x.cur, x.next, Effect::Nothing),
+            Ordering::Equal => found(x),
+            Ordering::Greater => not_found(x, Effect::Nothing),
         }
-        if self.split == want {
-            return found(x);
-        }
-        not_found(x, Effect::Nothing)
     }
 
     #[tactic(auto, unfolding(choice::specs::Choice::pick, crate::specs::Moves::f4))]
@@ -225,31 +216,25 @@ impl Seen {
         ensures { result ≡ f4 self }
     {
         let x = self.worker;
-        if (x.prev == 0) | self.bad_link() {
+        if self.bad_read(x.prev) {
             return Move::Damaged;
         }
         if is_to(self.word, x.cur) {
             if x.cur == 0 {
                 return Move::Damaged;
             }
-            let unlink = Effect::Unlink {
-                prev: x.prev,
-                next: x.next,
-                node: x.cur,
-                busy: self.header.busy,
-            };
-            return comes(x, x.prev, x.next, unlink);
+            return comes(x, x.prev, x.next, self.unlink());
         }
         on(x.to(place::F1))
     }
 
     // One step's decision, at the record's place; a record at none of these is damaged.
+    // A match, since the place is a number that a lent record holds.
     #[tactic(auto, unfolding(choice::specs::Choice::pick, crate::specs::Moves::decided, crate::specs::Moves::decided_at))]
     pub fn decide(self) -> Move
         ensures { result ≡ decided self }
     {
-        let place = self.worker.place;
-        match place {
+        match self.worker.place {
             place::I1 => self.i1(),
             place::SZ => self.sz(),
             place::TB => self.tb(),

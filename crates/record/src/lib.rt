@@ -2,14 +2,13 @@
 #![tactic(auto)]
 
 ghost use Rattle.std.specs.Prelude.{◌≡◌};
-ghost use Rattle.choice.specs.Choice.{pick};
 ghost use Rattle.record.specs.Fields.{to, with_errand, with_wanted, with_making, with_size, with_start, with_held, with_dummy};
-ghost use Rattle.record.specs.Worker.{fresh, idle, begun, coming_to, reading, tick, ticked, holds};
+ghost use Rattle.record.specs.Worker.{fresh, idle, begun, coming_to, reading, ticked, holds};
 
 use names::{errand, kind, place};
 
 // One worker's record: where it is in its operation, and what it remembers from the steps before.
-#[derive(Clone, Copy)]
+#[derive(Clone, Copy, Default, PartialEq, Eq)]
 pub struct Worker {
     pub place: u32,
     pub errand: u32,
@@ -28,33 +27,12 @@ pub struct Worker {
     pub steps: u32,
 }
 
-// The nodes that a record holds: an insert's key node, and the dummy that is being made; 0 is none.
+// The nodes that a record holds: an insert's key node, and the dummy that is being made.
+// No option: 0 is no node, as in the paper's words, and the tables' `put` writes nothing there.
 #[derive(Clone, Copy)]
 pub struct Held {
     pub key: u32,
     pub dummy: u32,
-}
-
-// The node n where it is held, and 0 where not.
-#[tactic(auto, unfolding(choice::specs::Choice::pick))]
-fn node_if(held: bool, n: u32) -> u32
-    ensures { result ≡ pick held n 0 }
-{
-    if held {
-        return n;
-    }
-    0
-}
-
-// One step more, up to the ceiling.
-#[tactic(auto, unfolding(choice::specs::Choice::pick, crate::specs::Worker::tick))]
-fn tick(steps: u32) -> u32
-    ensures { result ≡ tick steps }
-{
-    if steps < names::CEILING {
-        return steps + 1;
-    }
-    steps
 }
 
 impl Worker {
@@ -67,17 +45,7 @@ impl Worker {
             errand: errand::KEY,
             kind,
             key,
-            wanted: 0,
-            making: 0,
-            size: 0,
-            start: 0,
-            prev: 0,
-            cur: 0,
-            next: 0,
-            marked: false,
-            held: 0,
-            dummy: 0,
-            steps: 0,
+            ..Worker::default()
         }
     }
 
@@ -85,7 +53,7 @@ impl Worker {
     pub fn idle() -> Worker
         ensures { result ≡ idle }
     {
-        Worker::fresh(place::IDLE, 0, 0)
+        Worker::default()
     }
 
     // The record as an operation starts: an insert at I1, find and delete at SZ.
@@ -93,10 +61,10 @@ impl Worker {
     pub fn begun(kind: u32, key: u32) -> Worker
         ensures { result ≡ begun kind key }
     {
-        if kind == kind::INSERT {
-            return Worker::fresh(place::I1, kind, key);
+        match kind {
+            kind::INSERT => Worker::fresh(place::I1, kind, key),
+            _ => Worker::fresh(place::SZ, kind, key),
         }
-        Worker::fresh(place::SZ, kind, key)
     }
 
     // The worker goes to this place.
@@ -185,28 +153,30 @@ impl Worker {
         }
     }
 
-    // One step more is counted.
+    // One step more is counted, up to the ceiling.
+    #[tactic(auto, unfolding(choice::specs::Choice::pick, crate::specs::Worker::tick))]
     pub fn ticked(self) -> Worker
         ensures { result ≡ ticked self }
     {
         Worker {
-            steps: tick(self.steps),
+            steps: self.steps.saturating_add(1),
             ..self
         }
     }
 
     // The nodes that this record holds, over its place, errand and kind alone.
+    #[tactic(auto, using(names::proofs::Places::searches_within, names::proofs::Places::holds_within), unfolding(choice::specs::Choice::pick, crate::specs::Worker::held_key, crate::specs::Worker::held_dummy))]
     pub fn holds(self) -> Held
         ensures { result ≡ holds self }
     {
-        let searching = (place::F1 <= self.place) & (self.place <= place::L2);
+        let searching = matches!(self.place, place::F1..=place::L2);
         let key_held = (self.kind == kind::INSERT)
-            & ((place::SZ <= self.place) & (self.place <= place::B8))
+            & matches!(self.place, place::SZ..=place::B8)
             & !(searching & (self.errand == errand::EXTRA));
         let dummy_held = searching & (self.errand == errand::DUMMY);
         Held {
-            key: node_if(key_held, self.held),
-            dummy: node_if(dummy_held, self.dummy),
+            key: if key_held { self.held } else { 0 },
+            dummy: if dummy_held { self.dummy } else { 0 },
         }
     }
 }

@@ -2,9 +2,9 @@
 #![tactic(auto)]
 
 ghost use Rattle.std.specs.Prelude.{◌≡◌};
-ghost use Rattle.words.specs.Words.{tables, left, LINK, put, link_word, link_to};
+ghost use Rattle.words.specs.Words.{tables, left, LINK, put, link_to};
 ghost use Rattle.acts.specs.Acts.{handed_back};
-ghost use Rattle.writes.specs.Writes.{is_nothing, taken, tables_after, header_after};
+ghost use Rattle.writes.specs.Writes.{taken, tables_after, header_after};
 ghost use Rattle.writes.specs.Carry.{onward, closed_by, ending, carried_by};
 
 use acts::{Called, Effect, Move, Outcome};
@@ -12,24 +12,12 @@ use header::Header;
 use names::Answer;
 use record::Worker;
 
-// A link as one word: twice the number of the next node, and the mark. What passes 32 bits is cut.
-#[tactic(auto, unfolding(words::specs::Words::link_word))]
-fn link_word(next: u32, mark: u32) -> u32
-    ensures { result ≡ link_word next mark }
-{
-    (((next as u64) * 2 + (mark as u64)) % 4294967296) as u32
-}
-
-// The link to node next, marked or not.
-#[tactic(auto, unfolding(words::specs::Words::link_to, choice::specs::Choice::pick))]
+// The link to node next, marked or not, as one word: twice the node's number, and the mark. What passes 32 bits is cut.
+#[tactic(auto, unfolding(words::specs::Words::link_to, words::specs::Words::link_word, choice::specs::Choice::pick))]
 fn link_to(next: u32, marked: bool) -> u32
     ensures { result ≡ link_to next marked }
 {
-    if marked {
-        link_word(next, 1)
-    } else {
-        link_word(next, 0)
-    }
+    next.wrapping_mul(2).wrapping_add(u32::from(marked))
 }
 
 // Node n's link is to the next node, marked or not.
@@ -47,41 +35,21 @@ fn take(nodes: &mut [u32], n: u32, split: u32)
     words::put(nodes, n, words::STANDING, words::TAKEN);
 }
 
-// The step writes nothing, as most do.
-fn nothing(effect: Effect) -> bool
-    ensures { result ≡ is_nothing effect }
-{
-    match effect {
-        Effect::Nothing => true,
-        _ => false,
-    }
-}
-
 // The write of a step, in the tables.
 fn write(effect: Effect, nodes: &mut [u32], buckets: &mut [u32])
     ensures { tables nodes.new buckets.new ≡ tables_after effect (tables nodes.old buckets.old) }
 {
     match effect {
-        Effect::Nothing => {}
-        Effect::TakeKey { node, split } => {
+        Effect::TakeKey { node, split } | Effect::TakeDummy { node, split } => {
             take(nodes, node, split);
         }
-        Effect::TakeDummy { node, split } => {
-            take(nodes, node, split);
-        }
-        Effect::Free { node } => {
-            words::put(nodes, node, words::STANDING, words::FREE);
-        }
-        Effect::Aim { node, next } => {
-            aim(nodes, node, next, false);
-        }
+        Effect::Free { node } => words::put(nodes, node, words::STANDING, words::FREE),
+        Effect::Aim { node, next } => aim(nodes, node, next, false),
         Effect::Place { node, next, prev } => {
             aim(nodes, node, next, false);
             aim(nodes, prev, node, false);
         }
-        Effect::Mark { node, next } => {
-            aim(nodes, node, next, true);
-        }
+        Effect::Mark { node, next } => aim(nodes, node, next, true),
         Effect::Unlink {
             prev,
             next,
@@ -91,11 +59,8 @@ fn write(effect: Effect, nodes: &mut [u32], buckets: &mut [u32])
             aim(nodes, prev, next, false);
             words::put(nodes, node, words::STANDING, busy);
         }
-        Effect::Store { bucket, node } => {
-            words::store(buckets, bucket, node);
-        }
-        Effect::Count { value: _ } => {}
-        Effect::Size { value: _ } => {}
+        Effect::Store { bucket, node } => words::store(buckets, bucket, node),
+        Effect::Nothing | Effect::Count { .. } | Effect::Size { .. } => {}
     }
 }
 
@@ -106,24 +71,7 @@ fn written(effect: Effect, header: Header) -> Header
     match effect {
         Effect::Count { value } => header.counting(value),
         Effect::Size { value } => header.resized(value),
-        Effect::Nothing => header,
-        Effect::TakeKey { node: _, split: _ } => header,
-        Effect::TakeDummy { node: _, split: _ } => header,
-        Effect::Free { node: _ } => header,
-        Effect::Aim { node: _, next: _ } => header,
-        Effect::Place {
-            node: _,
-            next: _,
-            prev: _,
-        } => header,
-        Effect::Mark { node: _, next: _ } => header,
-        Effect::Unlink {
-            prev: _,
-            next: _,
-            node: _,
-            busy: _,
-        } => header,
-        Effect::Store { bucket: _, node: _ } => header,
+        _ => header,
     }
 }
 
@@ -131,8 +79,10 @@ fn written(effect: Effect, header: Header) -> Header
 fn handed_back(answer: Answer, header: Header, worker: Worker) -> Outcome
     ensures { result ≡ handed_back answer header worker }
 {
-    let called = Called::answered(answer, header);
-    Outcome { called, worker }
+    Outcome {
+        called: Called::answered(answer, header),
+        worker,
+    }
 }
 
 // The operation goes on: the step is counted in the record.
@@ -169,6 +119,7 @@ fn ending(number: u32, header: Header, worker: Worker, answer: Answer, effect: E
 }
 
 // A decision is carried out, in a register whose last node is `last`; damaged words change nothing.
+// The two tables are lent one by one: a struct with both would ask a clause more of each contract, that it still lends the same two.
 pub fn carry(
     last: u32,
     number: u32,
@@ -182,13 +133,15 @@ pub fn carry(
 {
     match decision {
         Move::Damaged => handed_back(Answer::Damaged, header, worker),
+        // Most steps write nothing, so these are not asked what they write.
+        Move::Going {
+            worker: next,
+            effect: Effect::Nothing,
+        } => onward(next, Effect::Nothing, header),
         Move::Going {
             worker: next,
             effect,
         } => {
-            if nothing(effect) {
-                return onward(next, effect, header);
-            }
             write(effect, nodes, buckets);
             onward(next, effect, header)
         }
