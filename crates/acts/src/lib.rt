@@ -3,7 +3,7 @@
 #![tactic(auto)]
 
 ghost use Rattle.std.specs.Prelude.{◌≡◌};
-ghost use Rattle.acts.specs.Acts.{answered};
+ghost use Rattle.acts.specs.Acts.{answered, handed_back};
 
 use header::Header;
 use names::Answer;
@@ -99,6 +99,18 @@ impl Called {
             answer,
             steps: 0,
             header,
+        }
+    }
+}
+
+impl Outcome {
+    // Header and record, with an answer that tells no steps.
+    pub fn handed_back(answer: Answer, header: Header, worker: Worker) -> Outcome
+        ensures { result ≡ handed_back answer header worker }
+    {
+        Outcome {
+            called: Called::answered(answer, header),
+            worker,
         }
     }
 }

@@ -45,15 +45,8 @@ fn one_call(turn: Turn, few: bool, call: Call, nodes: &mut [u32], buckets: &mut 
     ensures { left result (tables nodes.new buckets.new) ≡ one_call turn few call (tables nodes.old buckets.old) }
 {
     if few {
-        let lengths = Lengths {
-            nodes: nodes.len(),
-            buckets: buckets.len(),
-        };
-        let answer = turn.header.missing(true, lengths);
-        return Outcome {
-            called: Called::answered(answer, turn.header),
-            worker: turn.worker,
-        };
+        let answer = turn.header.missing(true, Lengths::of(nodes, buckets));
+        return Outcome::handed_back(answer, turn.header, turn.worker);
     }
     turn.call(call, nodes, buckets)
 }
@@ -62,10 +55,7 @@ fn one_call(turn: Turn, few: bool, call: Call, nodes: &mut [u32], buckets: &mut 
 fn steps_one(turn: Turn, few: bool, most: u32, nodes: &mut [u32], buckets: &mut [u32]) -> Outcome
     ensures { left result (tables nodes.new buckets.new) ≡ most_of turn.number few most (left (handed_back Going turn.header turn.worker) (tables nodes.old buckets.old)) }
 {
-    let mut out = Outcome {
-        called: Called::answered(Answer::Going, turn.header),
-        worker: turn.worker,
-    };
+    let mut out = Outcome::handed_back(Answer::Going, turn.header, turn.worker);
     for _ in 0..most {
         if !out.called.answer.goes_on() {
             break;
@@ -114,11 +104,7 @@ pub fn serve(
     let at = w as usize;
     // Read here and stored by its index below, since a proof knows nothing of the table after a `get_mut`.
     let Some(&worker) = workers.get(at) else {
-        let lengths = Lengths {
-            nodes: nodes.len(),
-            buckets: buckets.len(),
-        };
-        return past(header, call, most, len, lengths);
+        return past(header, call, most, len, Lengths::of(nodes, buckets));
     };
     let turn = Turn {
         number: w,

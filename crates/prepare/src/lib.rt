@@ -57,11 +57,7 @@ impl Limits {
     pub fn prepare(self, header: Header, nodes: &mut [u32], buckets: &mut [u32]) -> Called
         ensures { left result (tables nodes.new buckets.new) ≡ prepared self header (tables nodes.old buckets.old) }
     {
-        let lengths = Lengths {
-            nodes: nodes.len(),
-            buckets: buckets.len(),
-        };
-        if let Err(answer) = self.verdict(lengths) {
+        if let Err(answer) = self.verdict(Lengths::of(nodes, buckets)) {
             return Called::answered(answer, header);
         }
         let h = self.fresh_header();

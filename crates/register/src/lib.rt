@@ -8,7 +8,7 @@ ghost use Rattle.register.specs.Calls.{started_by, stepped_by, asked_of};
 ghost use Rattle.register.specs.Parts.{call_verdict, ask_verdict, open_verdict, busy_verdict, idle_verdict};
 ghost use Rattle.register.specs.Step.{refused_with, Small, word_for, split_for, seen_by};
 
-use acts::{Called, Move, Outcome};
+use acts::{Move, Outcome};
 use header::Header;
 use moves::Seen;
 use names::{Answer, kind, place};
@@ -60,10 +60,7 @@ impl Turn {
     fn refused(self, answer: Answer) -> Outcome
         ensures { result ≡ refused_with answer self }
     {
-        Outcome {
-            called: Called::answered(answer, self.header),
-            worker: self.worker,
-        }
+        Outcome::handed_back(answer, self.header, self.worker)
     }
 
     // 12, 11, 13: what a start and a step check first.
@@ -104,21 +101,15 @@ impl Turn {
         if self.worker.place != place::IDLE {
             return self.refused(Answer::IsBusy);
         }
-        Outcome {
-            called: Called::answered(Answer::Going, self.header.busy_with(self.number)),
-            worker: Worker::begun(kind, key),
-        }
+        let header = self.header.busy_with(self.number);
+        Outcome::handed_back(Answer::Going, header, Worker::begun(kind, key))
     }
 
     // One call of a worker: refused, or what it is asked for.
     pub fn call(self, call: Call, nodes: &mut [u32], buckets: &mut [u32]) -> Outcome
         ensures { left result (tables nodes.new buckets.new) ≡ asked_of self call (tables nodes.old buckets.old) }
     {
-        let lengths = Lengths {
-            nodes: nodes.len(),
-            buckets: buckets.len(),
-        };
-        if let Err(answer) = self.verdict(call, lengths) {
+        if let Err(answer) = self.verdict(call, Lengths::of(nodes, buckets)) {
             return self.refused(answer);
         }
         match call {

@@ -185,10 +185,7 @@ fn serve(
     ensures { left (replied result header.new records.new) (tables nodes.new buckets.new) ≡ call_words header.old records.old w call (tables nodes.old buckets.old) }
 {
     let h = header_of(*header);
-    let lengths = Lengths {
-        nodes: nodes.len(),
-        buckets: buckets.len(),
-    };
+    let lengths = Lengths::of(nodes, buckets);
     if lacks_records(records.len(), h.w) {
         return Reply::from(h.missing(true, lengths));
     }

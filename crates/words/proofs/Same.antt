@@ -5,6 +5,8 @@ use contract.Lifetimes.{Lfts}
 use denote.Triple.Clauses.{AtExit}
 use borrow.Fn.Kinds.{Dens, res_t, ended_of}
 use Rattle.choice.proofs.Same.{Determined}
+use Rattle.words.proofs.Lengths.of.Reads as lengths_of
+use Rattle.words.proofs.Lengths.of.Kinds as lengths_of-kinds
 use Rattle.words.proofs.word.Reads as word
 use Rattle.words.proofs.word.Kinds as word-kinds
 use Rattle.words.proofs.bucket.Reads as bucket
@@ -13,6 +15,9 @@ use Rattle.words.proofs.put.Reads as put
 use Rattle.words.proofs.put.Kinds as put-kinds
 use Rattle.words.proofs.store.Reads as store
 use Rattle.words.proofs.store.Kinds as store-kinds
+
+pub lengths_of_same : Determined 2 lengths_of-kinds.ps lengths_of-kinds.r lengths_of.Post
+lengths_of_same κs a x y e f p q = p ∙ sym q
 
 pub word_same : Determined 1 word-kinds.ps word-kinds.r word.Post
 word_same κs a x y e f p q = p ∙ sym q

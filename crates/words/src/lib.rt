@@ -2,7 +2,7 @@
 #![tactic(auto)]
 
 ghost use Rattle.std.specs.Prelude.{◌≡◌, set, slice_index};
-ghost use Rattle.words.specs.Words.{word, put, bucket, store};
+ghost use Rattle.words.specs.Words.{tables, lengths, word, put, bucket, store};
 
 // The three words of a node.
 pub const SPLIT_KEY: u32 = 0;
@@ -25,6 +25,18 @@ pub const LARGEST_SET: u32 = 65535;
 pub struct Lengths {
     pub nodes: usize,
     pub buckets: usize,
+}
+
+impl Lengths {
+    // Those of the two tables that are lent.
+    pub fn of(nodes: &[u32], buckets: &[u32]) -> Lengths
+        ensures { result ≡ lengths (tables nodes.now buckets.now) }
+    {
+        Lengths {
+            nodes: nodes.len(),
+            buckets: buckets.len(),
+        }
+    }
 }
 
 // The word at that place of a table.

@@ -3,7 +3,6 @@
 
 ghost use Rattle.std.specs.Prelude.{◌≡◌};
 ghost use Rattle.words.specs.Words.{tables, left, LINK, put, link_to};
-ghost use Rattle.acts.specs.Acts.{handed_back};
 ghost use Rattle.writes.specs.Writes.{taken, tables_after, header_after};
 ghost use Rattle.writes.specs.Carry.{onward, closed_by, ending, carried_by};
 
@@ -75,21 +74,11 @@ fn written(effect: Effect, header: Header) -> Header
     }
 }
 
-// Header and record, with an answer that tells no steps.
-fn handed_back(answer: Answer, header: Header, worker: Worker) -> Outcome
-    ensures { result ≡ handed_back answer header worker }
-{
-    Outcome {
-        called: Called::answered(answer, header),
-        worker,
-    }
-}
-
 // The operation goes on: the step is counted in the record.
 fn onward(worker: Worker, effect: Effect, header: Header) -> Outcome
     ensures { result ≡ onward worker effect header }
 {
-    handed_back(Answer::Going, written(effect, header), worker.ticked())
+    Outcome::handed_back(Answer::Going, written(effect, header), worker.ticked())
 }
 
 // At an ended answer the nodes still held are free, and the worker's bit leaves each standing that is a set.
@@ -132,7 +121,7 @@ pub fn carry(
     ensures { left result (tables nodes.new buckets.new) ≡ carried_by last number header worker decision (tables nodes.old buckets.old) }
 {
     match decision {
-        Move::Damaged => handed_back(Answer::Damaged, header, worker),
+        Move::Damaged => Outcome::handed_back(Answer::Damaged, header, worker),
         // Most steps write nothing, so these are not asked what they write.
         Move::Going {
             worker: next,

@@ -8,7 +8,7 @@ use Rattle.crew.proofs.serve.Goals as goal
 pub returns-in_default : goal.returns-in_default
 returns-in_default c =
     let a = c.args in
-    rw c.past.ensures (serve_past a.header a.workers.now a.w (tables a.nodes.now a.buckets.now) a.call a.most c.in_default.ensures.lookup.3)
+    rw (c.past.ensures, c.of.ensures) (serve_past a.header a.workers.now a.w (tables a.nodes.now a.buckets.now) a.call a.most c.in_default.ensures.lookup.3)
 
 pub returns : goal.returns
 returns c =

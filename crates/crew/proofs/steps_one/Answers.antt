@@ -18,11 +18,11 @@ pub returns-then-not-goes_on : goal.returns-then-not-goes_on
 returns-then-not-goes_on c =
     let l = c.loop in
     let a = c.args in
-    sym (most_over a.turn.number a.few (a.most - l.counter) (leaves l.out (tables l.nodes l.buckets)) (sym (c.if-not-goes_on.ensures))) ∙ rw c.answered.ensures at l.invariant
+    sym (most_over a.turn.number a.few (a.most - l.counter) (leaves l.out (tables l.nodes l.buckets)) (sym (c.if-not-goes_on.ensures))) ∙ rw c.handed_back-out.ensures at l.invariant
 
 pub returns-after-loop : goal.returns-after-loop
 returns-after-loop c =
     let l = c.loop in
     let a = c.args in
     let none : a.most - l.counter ≡ 0 = omega arith in
-    sym (most_none a.turn.number a.few (leaves l.out (tables l.nodes l.buckets))) ∙ rw none at (rw c.answered.ensures at l.invariant)
+    sym (most_none a.turn.number a.few (leaves l.out (tables l.nodes l.buckets))) ∙ rw none at (rw c.handed_back-out.ensures at l.invariant)

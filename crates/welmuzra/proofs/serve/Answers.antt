@@ -9,12 +9,12 @@ use Rattle.welmuzra.proofs.serve.Goals as goal
 pub returns-then-lacks_records : goal.returns-then-lacks_records
 returns-then-lacks_records c =
     let e = c.header_of-h.ensures in
-    rw (c.from.ensures, c.missing.ensures, e) (too_few _ _ _ _ _ (rw e at (sym c.lacks_records.ensures ∙ c.if-lacks_records.true)))
+    rw (c.from.ensures, c.missing.ensures, c.of-lengths.ensures, e) (too_few _ _ _ _ _ (rw e at (sym c.lacks_records.ensures ∙ c.if-lacks_records.true)))
 
 pub returns-then-h-w : goal.returns-then-h-w
 returns-then-h-w c =
     let e = c.header_of-h.ensures in
-    rw (c.from-then-h-w.ensures, c.missing-then-h-w.ensures, e)
+    rw (c.from-then-h-w.ensures, c.missing-then-h-w.ensures, c.of-lengths.ensures, e)
     (no_worker _ _ _ _ _ (rw e at (sym c.lacks_records.ensures ∙ c.if-lacks_records.false)) (rw e at c.if-h-w.true))
 
 pub returns : goal.returns

@@ -6,7 +6,7 @@ use Rattle.prepare.proofs.Limits.prepare.Goals as goal
 
 pub returns-in-Err : goal.returns-in-Err
 unfolding prepared
-returns-in-Err c = rw (c.answered.ensures, ← c.in-Err.ensures)
+returns-in-Err c = rw (c.answered.ensures, ← (rw c.of.ensures at c.in-Err.ensures))
 
 pub overflow_cast-nodes : goal.overflow_cast-nodes
 overflow_cast-nodes c = rw (c.nodes.ensures, c.fresh_header-h.ensures) (omega (arith, prepare_small _ _ (sym c.in_default.ensures)))
@@ -14,4 +14,4 @@ overflow_cast-nodes c = rw (c.nodes.ensures, c.fresh_header-h.ensures) (omega (a
 pub returns : goal.returns
 unfolding prepared
 returns c =
-    rw (c.answered-2.ensures, ← c.in_default.ensures, c.store.ensures, c.clear-2.ensures, c.put.ensures, c.clear.ensures, c.nodes.ensures, c.fresh_header-h.ensures)
+    rw (c.answered-2.ensures, ← (rw c.of.ensures at c.in_default.ensures), c.store.ensures, c.clear-2.ensures, c.put.ensures, c.clear.ensures, c.nodes.ensures, c.fresh_header-h.ensures)

@@ -5,7 +5,7 @@ use Rattle.register.proofs.Laws.{start_follows, step_follows, open_small, refuse
 use Rattle.register.proofs.Turn.call.Goals as goal
 
 pub returns-in-Err : goal.returns-in-Err
-returns-in-Err c = rw c.refused.ensures (sym (refused_asked _ _ _ _ (sym c.in-Err.ensures)))
+returns-in-Err c = rw c.refused.ensures (sym (refused_asked _ _ _ _ (rw c.of.ensures at (sym c.in-Err.ensures))))
 
 pub invariant_of-act : goal.invariant_of-act
 invariant_of-act c = record { small = open_small _ _ _ (sym c.in_default.ensures) }
@@ -13,11 +13,11 @@ invariant_of-act c = record { small = open_small _ _ _ (sym c.in_default.ensures
 pub returns-in-Start : goal.returns-in-Start
 unfolding start_of
 returns-in-Start c =
-    let free = rw c.in-Start.is at (sym c.in_default.ensures) in
+    let free = rw (c.in-Start.is, c.of.ensures) at (sym c.in_default.ensures) in
     rw (c.in-Start.is, c.begin.ensures, start_follows, free)
 
 pub returns-in-Step : goal.returns-in-Step
 unfolding step_of
 returns-in-Step c =
-    let free = rw c.in-Step.is at (sym c.in_default.ensures) in
+    let free = rw (c.in-Step.is, c.of.ensures) at (sym c.in_default.ensures) in
     rw (c.in-Step.is, step_follows, free) c.act.ensures
