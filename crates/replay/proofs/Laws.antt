@@ -2,7 +2,7 @@
 -- Assumes nothing.
 use Prim.Native.Nat.{ℕ, zero, suc, ◌-◌}
 use mathlib.Core.Bool.{Bool, true, false, false≢true, ◌&&◌}
-use mathlib.Core.Path.{◌≡◌, refl, sym}
+use mathlib.Core.Path.{◌≡◌, refl, sym, ap, ◌∙◌}
 use mathlib.Core.List.{List, ◌++◌}
 use native.Mathlib.Omega.{arith}
 use lib.Dec.{ltb}
@@ -11,17 +11,14 @@ use Rattle.choice.proofs.Auto.{pick_true, pick_false}
 use Rattle.words.specs.Words.{Left}
 use Rattle.crew.specs.Crew.{Crew}
 use Rattle.script.specs.Script.{entry_at, body_at}
-use Rattle.text.specs.Text.{Laid}
-use Rattle.text.proofs.Laying.{laid_on, laid_as}
+use Rattle.text.specs.declared.Page.{Page}
+use Rattle.text.specs.Text.{written}
+use Rattle.text.proofs.Laying.{written_on}
 use Rattle.names.specs.declared.Answer.{Answer}
 use Rattle.replay.specs.declared.Operation.{Operation}
 use Rattle.replay.specs.declared.Stand.{Stand}
 use Rattle.replay.specs.Play.{worker_in, number_in, played, operation_of, call_line}
 use Rattle.replay.specs.Replay.{kind_of, next_of, stand_of, is_played, last_lines, later_lines}
-
--- a text laid here is another text laid there: whatever the one leaves, the other does
-abbrev pub Leads : List ℕ → ℕ → List ℕ → List ℕ → ℕ → List ℕ → Type 0
-Leads out at text out₀ at₀ whole = (exit : List ℕ) (place : ℕ) → Laid out at text exit place → Laid out₀ at₀ whole exit place
 
 -- the loop's test: a turn is left, and the run goes on at the offset
 abbrev pub goes : List ℕ → ℕ → ℕ → Bool
@@ -54,12 +51,13 @@ later_stop input zero offset l e = refl
 later_stop input (suc turns) offset l e = pick_false (is_played (kind_of (entry_at input offset))) _ _ (rw (lt-ltb 0 (suc turns) (omega arith)) at e)
 
 -- a record whose call was made and whose line was laid leads on
-module _ (input : List ℕ) (turns offset : ℕ) (l : Left Crew) {out out₀ whole : List ℕ} {at at₀ : ℕ} where
-  pub leads_on : {w number place : ℕ} {s : Stand} {body exit : List ℕ} {o : Operation} {answer : Answer} {m : Left Crew} → Leads out at (later_lines input turns offset l) out₀ at₀ whole → goes input turns offset ≡ true
+module _ (input : List ℕ) (turns offset : ℕ) (l : Left Crew) (page : Page) {next whole : Page} where
+  pub leads_on : {w number : ℕ} {s : Stand} {body : List ℕ} {o : Operation} {answer : Answer} {m : Left Crew} → written page (later_lines input turns offset l) ≡ whole → goes input turns offset ≡ true
       → s ≡ stand_of (entry_at input offset) → body ≡ body_at input offset → w ≡ worker_in body → number ≡ number_in s.kind body → o ≡ operation_of w l.out.workers
-      → m ≡ played s.kind w number l.out.called.header l.out.workers l.tables → answer ≡ m.out.called.answer → Laid out at (call_line o answer m.out.called.steps offset) exit place
-      → Leads exit place (later_lines input (turns - 1) s.next m) out₀ at₀ whole
-  leads_on {w} {number} {place} {s} {body} {exit} {o} {answer} {m} lead test k b v u who is a line end stop h = lead end stop (laid_as (sym turn) (laid_on line h))
+      → m ≡ played s.kind w number l.out.called.header l.out.workers l.tables → answer ≡ m.out.called.answer → next ≡ written page (call_line o answer m.out.called.steps offset)
+      → written next (later_lines input (turns - 1) s.next m) ≡ whole
+  leads_on {w} {number} {s} {body} {o} {answer} {m} lead test k b v u who is a line =
+      rw (line, written_on) (ap (written page) (sym turn) ∙ lead)
     where
       turn : later_lines input turns offset l ≡ call_line o answer m.out.called.steps offset ++ later_lines input (turns - 1) s.next m
       turn = rw (a, who, is, u, v, k, b) (later_on input turns offset l test)

@@ -26,7 +26,6 @@ use Rattle.words.specs.Words.{Tables, Left}
 use Rattle.crew.specs.declared.Ready.{Ready}
 use Rattle.crew.specs.Crew.{prepare_one, prepare_at}
 use Rattle.lines.specs.Lines.{kind_named, ended_line, refused_line}
-use Rattle.lines.proofs.Joined.{ended_none}
 use Rattle.replay.specs.declared.Operation.{Operation}
 use Rattle.replay.specs.Play.{MOST_WORKERS, buckets_of, limits_of, blank, opened, call_line}
 
@@ -37,10 +36,10 @@ refused_line_lem o a steps offset n e r = ap (λ (k : ℕ). refused_line k offse
 
 -- going on ends nothing, so its line is nothing
 pub other_line : (o : Operation) (a : Answer) (steps offset : ℕ) → refuses a ≡ false → ended_line o.worker o.kind o.key a steps ≡ call_line o a steps offset
-unfolding call_line
+unfolding call_line ended_line
 other_line o a steps offset r =
     by_bool (λ (text : List ℕ). ended_line o.worker o.kind o.key a steps ≡ text) (goes_on a)
-    (λ g. sym (ended_none o.worker o.kind o.key a steps (rw (only_going a g) (and-false (kind_named o.kind)))))
+    (λ g. pick_false _ _ _ (rw (only_going a g) (and-false (kind_named o.kind))))
     (λ _. sym (pick_false _ _ _ r))
 
 -- ---- an exponent that is not outside 1 to 10

@@ -5,7 +5,7 @@ ghost use Rattle.std.specs.Prelude.{◌≡◌};
 ghost use Rattle.words.specs.Words.{tables, left};
 ghost use Rattle.crew.specs.Crew.{crew};
 ghost use Rattle.script.specs.Script.{entry_at, body_at};
-ghost use Rattle.text.specs.Text.{Laid};
+ghost use Rattle.text.specs.Text.{Laid, written};
 ghost use Rattle.lines.specs.Lines.{refused_line};
 ghost use Rattle.replay.specs.Play.{buckets_of, limits_of, opened, number_in, call_of, played, operation_of, call_line};
 ghost use Rattle.replay.specs.Replay.{kind_of, stand_of, stop_line, is_played, last_line, first_line, beginning, printed};
@@ -18,6 +18,7 @@ use prepare::Limits;
 use record::Worker;
 use register::Call;
 use script::Entry;
+use text::Page;
 
 // No kind.
 const NONE: u32 = 6;
@@ -173,25 +174,18 @@ fn answer_of(bank: Bank) -> Answer
 }
 
 // The line of a refusal.
-fn put_refused(out: &mut [u8], at: usize, number: u32, offset: usize) -> usize
-    ensures { Laid out.old at (refused_line number offset) out.new result }
+fn put_refused(page: &mut Page, number: u32, offset: usize)
+    ensures { page.new ≡ written page.old (refused_line number offset) }
 {
-    lines::put_line(out, at, Line::Refused { number, offset })
+    lines::put_line(page, Line::Refused { number, offset });
 }
 
 // The line of a call: a refusal, an ended operation, or nothing.
-fn put_call(
-    out: &mut [u8],
-    at: usize,
-    operation: Operation,
-    answer: Answer,
-    steps: u32,
-    offset: usize,
-) -> usize
-    ensures { Laid out.old at (call_line operation answer steps offset) out.new result }
+fn put_call(page: &mut Page, operation: Operation, answer: Answer, steps: u32, offset: usize)
+    ensures { page.new ≡ written page.old (call_line operation answer steps offset) }
 {
     if answer.refuses() {
-        return put_refused(out, at, answer.number(), offset);
+        return put_refused(page, answer.number(), offset);
     }
     let ended = Line::Ended {
         worker: operation.worker,
@@ -200,7 +194,7 @@ fn put_call(
         answer,
         steps,
     };
-    lines::put_line(out, at, ended)
+    lines::put_line(page, ended);
 }
 
 // What stands at an offset, to the run.
@@ -236,19 +230,19 @@ fn stand_at(schedule: &[u8], offset: usize) -> Stand
 }
 
 // What stops the run at an offset; the input's end prints nothing.
-fn put_stop(out: &mut [u8], at: usize, schedule: &[u8], offset: usize) -> usize
-    ensures { Laid out.old at (stop_line schedule.now offset) out.new result }
+fn put_stop(page: &mut Page, schedule: &[u8], offset: usize)
+    ensures { page.new ≡ written page.old (stop_line schedule.now offset) }
 {
     if schedule.len() <= offset {
-        return text::put_text(out, at, b"");
+        return page.put(b"");
     }
     let stand = stand_at(schedule, offset);
-    put_refused(out, at, stand.fault, offset)
+    put_refused(page, stand.fault, offset);
 }
 
 // The registered keys, the count and the size.
-fn put_last(out: &mut [u8], at: usize, header: Header, nodes: &[u32]) -> usize
-    ensures { Laid out.old at (last_line header nodes.now) out.new result }
+fn put_last(page: &mut Page, header: Header, nodes: &[u32])
+    ensures { page.new ≡ written page.old (last_line header nodes.now) }
 {
     let keys = chain::keys_from(nodes, MOST_NODES, 1);
     let end = Line::End {
@@ -256,7 +250,7 @@ fn put_last(out: &mut [u8], at: usize, header: Header, nodes: &[u32]) -> usize
         count: header.count,
         size: header.size,
     };
-    lines::put_line(out, at, end)
+    lines::put_line(page, end);
 }
 
 // A whole record that isn't 00 stands at an offset: the run goes on.
@@ -268,8 +262,8 @@ fn is_played(schedule: &[u8], offset: usize) -> bool
 }
 
 // The line of a register that was prepared.
-fn put_first(out: &mut [u8], header: Header) -> usize
-    ensures { Laid out.old 0 (first_line header) out.new result }
+fn put_first(page: &mut Page, header: Header)
+    ensures { page.new ≡ written page.old (first_line header) }
 {
     let register = Line::Register {
         m: header.m,
@@ -277,25 +271,19 @@ fn put_first(out: &mut [u8], header: Header) -> usize
         w: header.w,
         l: header.l,
     };
-    lines::put_line(out, 0, register)
+    lines::put_line(page, register);
 }
 
 // The first record, and the records after it, one a turn: there are no more of them than bytes. A refused 00 stops the run.
-fn begin(
-    schedule: &[u8],
-    next: usize,
-    nodes: &mut [u32],
-    buckets: &mut [u32],
-    out: &mut [u8],
-) -> usize
-    ensures { Laid out.old 0 (beginning schedule.now next (opened (body_at schedule.now 0) (tables nodes.old buckets.old))) out.new result }
+fn begin(schedule: &[u8], next: usize, nodes: &mut [u32], buckets: &mut [u32], page: &mut Page)
+    ensures { page.new ≡ written page.old (beginning schedule.now next (opened (body_at schedule.now 0) (tables nodes.old buckets.old))) }
 {
     let mut bank = ready(script::body_of(schedule, 0), nodes, buckets);
     let answer = answer_of(bank);
     if !answer.goes_on() {
-        return put_refused(out, 0, answer.number(), 0);
+        return put_refused(page, answer.number(), 0);
     }
-    let mut place = put_first(out, bank.called.header);
+    put_first(page, bank.called.header);
     let mut offset = next;
     let mut turns = schedule.len();
     while (0 < turns) & is_played(schedule, offset) {
@@ -308,26 +296,36 @@ fn begin(
         let operation = operation_of(workers, w);
         bank = play(workers, bank.called.header, kind, w, number, nodes, buckets);
         let answer = answer_of(bank);
-        place = put_call(out, place, operation, answer, bank.called.steps, offset);
+        put_call(page, operation, answer, bank.called.steps, offset);
         offset = stand.next;
         turns -= 1;
     }
-    place = put_stop(out, place, schedule, offset);
-    put_last(out, place, bank.called.header, &nodes[..])
+    put_stop(page, schedule, offset);
+    put_last(page, bank.called.header, &nodes[..]);
 }
 
-// Runs a schedule and lays what it prints at the start of a lent buffer; where that ends.
-pub fn run(schedule: &[u8], out: &mut [u8]) -> usize
-    ensures { Laid out.old 0 (printed schedule.now) out.new result }
+// All that a schedule prints.
+fn put_run(page: &mut Page, schedule: &[u8])
+    ensures { page.new ≡ written page.old (printed schedule.now) }
 {
     if LONGEST < schedule.len() {
-        return put_refused(out, 0, TOO_LONG, LONGEST);
+        return put_refused(page, TOO_LONG, LONGEST);
     }
     let stand = stand_at(schedule, 0);
     if stand.kind != 0 {
-        return put_refused(out, 0, stand.fault, 0);
+        return put_refused(page, stand.fault, 0);
     }
     let mut nodes = [0u32; NODE_WORDS];
     let mut buckets = [0u32; MOST_BUCKETS];
-    begin(schedule, stand.next, &mut nodes, &mut buckets, out)
+    begin(schedule, stand.next, &mut nodes, &mut buckets, page);
+}
+
+// Runs a schedule and lays what it prints at the start of a lent buffer; where that ends.
+#[tactic(auto, unfolding(text::specs::Text::written))]
+pub fn run(schedule: &[u8], out: &mut [u8]) -> usize
+    ensures { Laid out.old 0 (printed schedule.now) out.new result }
+{
+    let mut page = Page::new(out);
+    put_run(&mut page, schedule);
+    page.end
 }
