@@ -1,4 +1,5 @@
 // The run of a schedule: record after record moves the register, and the lines that it prints are laid in a lent buffer.
+// Nodes and buckets go as two slices: a struct that held both would need a clause in each contract that it still holds the same two.
 #![tactic(auto)]
 
 ghost use Rattle.std.specs.Prelude.{◌≡◌};
@@ -24,7 +25,7 @@ use text::Page;
 const MOST_NODES: u32 = 5136;
 
 // The words that are lent to it: three to a node, and the most buckets.
-const NODE_WORDS: usize = 15408;
+const NODE_WORDS: usize = 3 * MOST_NODES as usize;
 
 const MOST_BUCKETS: usize = 1024;
 
@@ -35,10 +36,10 @@ const MOST_WORKERS: usize = 16;
 const LONGEST: usize = 65536;
 
 // The bytes that are read, one more than the longest schedule has, so that a longer one is told.
-pub const READ: usize = 65537;
+pub const READ: usize = LONGEST + 1;
 
-// The bytes that hold what any schedule prints: nine for each of the longest.
-pub const PRINTED: usize = 589824;
+// The bytes that hold what any schedule prints: nine for each byte of the longest schedule.
+pub const PRINTED: usize = 9 * LONGEST;
 
 // Whose operation a record is about: the worker, and the kind and key that its record has.
 #[derive(Clone, Copy)]
@@ -49,7 +50,7 @@ struct Operation {
 }
 
 // What a schedule itself is refused with, each with its number.
-#[derive(Clone, Copy, Debug, PartialEq, Eq)]
+#[derive(Clone, Copy)]
 enum Refusal {
     UnknownKind = 30,
     CutShort = 31,
