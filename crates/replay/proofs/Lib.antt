@@ -1,6 +1,5 @@
+pub mod Exponent
 pub mod Laws
-pub mod Played
 pub mod Same
 pub mod Turns
-pub mod Ways
 pub mod Whole

@@ -1,11 +1,12 @@
 // The run of a schedule: record after record moves the register, and the lines that it prints are laid in a lent buffer.
+// Nodes and buckets go as two slices: a struct that held both would need a clause in each contract that it still holds the same two.
 #![tactic(auto)]
 
 ghost use Rattle.std.specs.Prelude.{◌≡◌};
 ghost use Rattle.words.specs.Words.{tables, left};
 ghost use Rattle.crew.specs.Crew.{crew};
 ghost use Rattle.script.specs.Script.{entry_at, body_at};
-ghost use Rattle.text.specs.Text.{Laid};
+ghost use Rattle.text.specs.Text.{Laid, written};
 ghost use Rattle.lines.specs.Lines.{refused_line};
 ghost use Rattle.replay.specs.Play.{buckets_of, limits_of, opened, number_in, call_of, played, operation_of, call_line};
 ghost use Rattle.replay.specs.Replay.{refusal_number, refusal_of, first_record, later_record, stop_line, last_line, first_line, beginning, printed};
@@ -18,12 +19,13 @@ use prepare::Limits;
 use record::Worker;
 use register::Call;
 use script::{Fault, Kind, Record};
+use text::Page;
 
 // The most nodes that a register has: no chain is longer.
 const MOST_NODES: u32 = 5136;
 
 // The words that are lent to it: three to a node, and the most buckets.
-const NODE_WORDS: usize = 15408;
+const NODE_WORDS: usize = 3 * MOST_NODES as usize;
 
 const MOST_BUCKETS: usize = 1024;
 
@@ -34,10 +36,10 @@ const MOST_WORKERS: usize = 16;
 const LONGEST: usize = 65536;
 
 // The bytes that are read, one more than the longest schedule has, so that a longer one is told.
-pub const READ: usize = 65537;
+pub const READ: usize = LONGEST + 1;
 
-// The bytes that hold what any schedule prints: nine for each of the longest.
-pub const PRINTED: usize = 589824;
+// The bytes that hold what any schedule prints: nine for each byte of the longest schedule.
+pub const PRINTED: usize = 9 * LONGEST;
 
 // Whose operation a record is about: the worker, and the kind and key that its record has.
 #[derive(Clone, Copy)]
@@ -48,7 +50,7 @@ struct Operation {
 }
 
 // What a schedule itself is refused with, each with its number.
-#[derive(Clone, Copy, Debug, PartialEq, Eq)]
+#[derive(Clone, Copy)]
 enum Refusal {
     UnknownKind = 30,
     CutShort = 31,
@@ -164,25 +166,19 @@ fn operation_of(workers: [Worker; MOST_WORKERS], w: u32) -> Operation
 }
 
 // The line of a refusal.
-fn put_refused(out: &mut [u8], at: usize, number: u32, offset: usize) -> usize
-    ensures { Laid out.old at (refused_line number offset) out.new result }
+fn put_refused(page: &mut Page, number: u32, offset: usize)
+    ensures { page.new ≡ written page.old (refused_line number offset) }
 {
-    lines::put_line(out, at, Line::Refused { number, offset })
+    lines::put_line(page, Line::Refused { number, offset });
 }
 
 // The line of a call: a refusal, an ended operation, or nothing.
-fn put_call(
-    out: &mut [u8],
-    at: usize,
-    operation: Operation,
-    answer: Answer,
-    steps: u32,
-    offset: usize,
-) -> usize
-    ensures { Laid out.old at (call_line operation answer steps offset) out.new result }
+#[tactic(auto, unfolding(crate::specs::Play::call_line, lines::specs::Lines::ended_line, choice::specs::Choice::pick))]
+fn put_call(page: &mut Page, operation: Operation, answer: Answer, steps: u32, offset: usize)
+    ensures { page.new ≡ written page.old (call_line operation answer steps offset) }
 {
     if answer.refuses() {
-        return put_refused(out, at, answer.number(), offset);
+        return put_refused(page, answer.number(), offset);
     }
     let ended = Line::Ended {
         worker: operation.worker,
@@ -191,7 +187,7 @@ fn put_call(
         answer,
         steps,
     };
-    lines::put_line(out, at, ended)
+    lines::put_line(page, ended);
 }
 
 // The first record has to be 00: where the next one starts.
@@ -216,18 +212,19 @@ fn later_at(schedule: &[u8], offset: usize) -> Result<Option<Record>, Refusal>
 
 // What stops the run at an offset; the input's end prints nothing.
 #[tactic(auto, unfolding(crate::specs::Replay::stop_line))]
-fn put_stop(out: &mut [u8], at: usize, schedule: &[u8], offset: usize) -> usize
-    ensures { Laid out.old at (stop_line schedule.now offset) out.new result }
+fn put_stop(page: &mut Page, schedule: &[u8], offset: usize)
+    ensures { page.new ≡ written page.old (stop_line schedule.now offset) }
 {
     match later_at(schedule, offset) {
-        Ok(_) => text::put_text(out, at, b""),
-        Err(refusal) => put_refused(out, at, refusal.number(), offset),
+        // Nothing is laid as any text is: an end past the buffer comes back to the buffer's end.
+        Ok(_) => page.put(b""),
+        Err(refusal) => put_refused(page, refusal.number(), offset),
     }
 }
 
 // The registered keys, the count and the size.
-fn put_last(out: &mut [u8], at: usize, header: Header, nodes: &[u32]) -> usize
-    ensures { Laid out.old at (last_line header nodes.now) out.new result }
+fn put_last(page: &mut Page, header: Header, nodes: &[u32])
+    ensures { page.new ≡ written page.old (last_line header nodes.now) }
 {
     let keys = chain::keys_from(nodes, MOST_NODES, 1);
     let end = Line::End {
@@ -235,12 +232,12 @@ fn put_last(out: &mut [u8], at: usize, header: Header, nodes: &[u32]) -> usize
         count: header.count,
         size: header.size,
     };
-    lines::put_line(out, at, end)
+    lines::put_line(page, end);
 }
 
 // The line of a register that was prepared.
-fn put_first(out: &mut [u8], header: Header) -> usize
-    ensures { Laid out.old 0 (first_line header) out.new result }
+fn put_first(page: &mut Page, header: Header)
+    ensures { page.new ≡ written page.old (first_line header) }
 {
     let register = Line::Register {
         m: header.m,
@@ -248,25 +245,20 @@ fn put_first(out: &mut [u8], header: Header) -> usize
         w: header.w,
         l: header.l,
     };
-    lines::put_line(out, 0, register)
+    lines::put_line(page, register);
 }
 
 // The first record, and the records after it, up to the input's end or one that stops the run. A refused 00 stops it too.
-fn begin(
-    schedule: &[u8],
-    next: usize,
-    nodes: &mut [u32],
-    buckets: &mut [u32],
-    out: &mut [u8],
-) -> usize
-    ensures { Laid out.old 0 (beginning schedule.now next (opened (body_at schedule.now 0) (tables nodes.old buckets.old))) out.new result }
+#[tactic(auto, unfolding(crate::specs::Replay::beginning, choice::specs::Choice::pick))]
+fn begin(schedule: &[u8], next: usize, nodes: &mut [u32], buckets: &mut [u32], page: &mut Page)
+    ensures { page.new ≡ written page.old (beginning schedule.now next (opened (body_at schedule.now 0) (tables nodes.old buckets.old))) }
 {
     let mut bank = ready(script::body_of(schedule, 0), nodes, buckets);
     let answer = bank.called.answer;
     if !answer.goes_on() {
-        return put_refused(out, 0, answer.number(), 0);
+        return put_refused(page, answer.number(), 0);
     }
-    let mut place = put_first(out, bank.called.header);
+    put_first(page, bank.called.header);
     let mut offset = next;
     while let Ok(Some(record)) = later_at(schedule, offset) {
         let body = script::body_of(schedule, offset);
@@ -275,27 +267,37 @@ fn begin(
         let operation = operation_of(bank.workers, w);
         bank = play(bank, record.kind, w, number, nodes, buckets);
         let called = bank.called;
-        place = put_call(out, place, operation, called.answer, called.steps, offset);
+        put_call(page, operation, called.answer, called.steps, offset);
         offset = record.next;
     }
-    place = put_stop(out, place, schedule, offset);
-    put_last(out, place, bank.called.header, &nodes[..])
+    put_stop(page, schedule, offset);
+    put_last(page, bank.called.header, nodes);
 }
 
-// Runs a schedule and lays what it prints at the start of a lent buffer; where that ends.
+// All that a schedule prints.
 #[tactic(auto, unfolding(crate::specs::Replay::printed, choice::specs::Choice::pick))]
-pub fn run(schedule: &[u8], out: &mut [u8]) -> usize
-    ensures { Laid out.old 0 (printed schedule.now) out.new result }
+fn put_run(page: &mut Page, schedule: &[u8])
+    ensures { page.new ≡ written page.old (printed schedule.now) }
 {
     if LONGEST < schedule.len() {
-        return put_refused(out, 0, Refusal::TooLong.number(), LONGEST);
+        return put_refused(page, Refusal::TooLong.number(), LONGEST);
     }
     match first_at(schedule) {
         Ok(next) => {
             let mut nodes = [0u32; NODE_WORDS];
             let mut buckets = [0u32; MOST_BUCKETS];
-            begin(schedule, next, &mut nodes, &mut buckets, out)
+            begin(schedule, next, &mut nodes, &mut buckets, page);
         }
-        Err(refusal) => put_refused(out, 0, refusal.number(), 0),
+        Err(refusal) => put_refused(page, refusal.number(), 0),
     }
+}
+
+// Runs a schedule and lays what it prints at the start of a lent buffer; where that ends.
+#[tactic(auto, unfolding(text::specs::Text::written))]
+pub fn run(schedule: &[u8], out: &mut [u8]) -> usize
+    ensures { Laid out.old 0 (printed schedule.now) out.new result }
+{
+    let mut page = Page::new(out);
+    put_run(&mut page, schedule);
+    page.end
 }

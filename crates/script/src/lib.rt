@@ -4,11 +4,8 @@
 ghost use Rattle.std.specs.Prelude.{◌≡◌};
 ghost use Rattle.script.specs.Script.{kind_of, body_length, entry_at, body_at};
 
-use std::error::Error;
-use std::fmt;
-
 // The kinds of record, in the order of their bytes from 00 on.
-#[derive(Clone, Copy, Debug, PartialEq, Eq)]
+#[derive(Clone, Copy, PartialEq, Eq)]
 pub enum Kind {
     Prepare,
     Insert,
@@ -19,7 +16,7 @@ pub enum Kind {
 }
 
 // Why no record can be read at an offset.
-#[derive(Clone, Copy, Debug, PartialEq, Eq)]
+#[derive(Clone, Copy)]
 pub enum Fault {
     // The byte of kind is none of the kinds (30).
     Unknown,
@@ -27,19 +24,8 @@ pub enum Fault {
     Cut,
 }
 
-impl fmt::Display for Fault {
-    fn fmt<W: fmt::Write>(&self, f: &mut fmt::Formatter<W>) -> fmt::Result {
-        f.write_str(match self {
-            Fault::Unknown => "unknown kind",
-            Fault::Cut => "record cut short",
-        })
-    }
-}
-
-impl Error for Fault {}
-
 // A whole record: its kind, and where the next record starts.
-#[derive(Clone, Copy, Debug, PartialEq, Eq)]
+#[derive(Clone, Copy)]
 pub struct Record {
     pub kind: Kind,
     pub next: usize,

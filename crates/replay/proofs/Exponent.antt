@@ -1,18 +1,15 @@
--- The answer's class says which line a call has; an exponent outside 1 to 10 gives a limit that preparing refuses.
+-- An exponent outside 1 to 10 gives a limit that preparing refuses.
 -- Assumes nothing.
 use Prim.Native.Nat.{ℕ, ◌^◌}
-use mathlib.Core.Bool.{true, false, and-false}
-use mathlib.Core.Path.{◌≡◌, sym, ap, ◌∙◌}
+use mathlib.Core.Bool.{true}
+use mathlib.Core.Path.{◌≡◌}
 use mathlib.Core.List.{List}
 use lib.Dec.{ltb}
 use lib.ListN.{length, get_or, replicate}
 use Rattle.std.specs.Prelude.{Err}
 use Rattle.names.specs.Verdicts.{Verdict}
-use Rattle.choice.proofs.Auto.{pick_true, pick_false}
-use Rattle.choice.proofs.Cases.{by_bool, both}
-use Rattle.names.specs.Names.{number_of, refuses, goes_on}
-use Rattle.names.proofs.Classes.{refused_stops, only_going}
-use Rattle.names.specs.declared.Answer.{Answer}
+use Rattle.choice.proofs.Auto.{pick_true}
+use Rattle.choice.proofs.Cases.{both}
 use Rattle.names.specs.declared.Answer.TheVariants.{Limit, Short}
 use Rattle.header.specs.declared.Header.{Header}
 use Rattle.header.specs.Header.{outside, limit_broken}
@@ -23,25 +20,8 @@ use Rattle.prepare.specs.declared.Limits.{Limits}
 use Rattle.prepare.specs.Prepare.{fresh_header, prepare_verdict, too_few_for, prepared}
 use Rattle.words.specs.Words.{Tables, Left}
 use Rattle.crew.specs.Crew.{Ready, prepare_one, prepare_at}
-use Rattle.lines.specs.Lines.{kind_named, ended_line, refused_line}
-use Rattle.lines.proofs.Joined.{ended_none}
-use Rattle.replay.specs.declared.Operation.{Operation}
-use Rattle.replay.specs.Play.{MOST_WORKERS, buckets_of, limits_of, blank, opened, call_line}
+use Rattle.replay.specs.Play.{MOST_WORKERS, buckets_of, limits_of, blank, opened}
 
--- ---- the line of a call
-pub refused_line_lem : (o : Operation) (a : Answer) (steps offset n : ℕ) → n ≡ number_of a → refuses a ≡ true → refused_line n offset ≡ call_line o a steps offset
-unfolding call_line
-refused_line_lem o a steps offset n e r = ap (λ (k : ℕ). refused_line k offset) e ∙ sym (pick_false _ _ _ (refused_stops a r) ∙ pick_true _ _ _ r)
-
--- going on ends nothing, so its line is nothing
-pub other_line : (o : Operation) (a : Answer) (steps offset : ℕ) → refuses a ≡ false → ended_line o.worker o.kind o.key a steps ≡ call_line o a steps offset
-unfolding call_line
-other_line o a steps offset r =
-    by_bool (λ (text : List ℕ). ended_line o.worker o.kind o.key a steps ≡ text) (goes_on a)
-    (λ g. sym (ended_none o.worker o.kind o.key a steps (rw (only_going a g) (and-false (kind_named o.kind)))))
-    (λ _. sym (pick_false _ _ _ r))
-
--- ---- an exponent outside 1 to 10
 -- it gives 0 buckets, which breaks a limit, whatever K, W and L are
 limits_broken : (body : List ℕ) → outside 1 10 (get_or body 0 0) ≡ true → limit_broken (fresh_header (limits_of body)) ≡ true
 unfolding buckets_of limit_broken power_up_to
