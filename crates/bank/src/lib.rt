@@ -1,5 +1,5 @@
 // The table of records by value, lent for a call and taken back: whoever holds a register needs no slice of worker structs of its own.
-// Nodes and buckets go as two slices: a struct that held both would need a clause in each contract that it still holds the same two.
+// Nodes and buckets go as two slices: of a struct that held both, each contract would have to say besides that it still holds the same two.
 #![tactic(auto)]
 
 ghost use Rattle.std.specs.Prelude.{◌≡◌};

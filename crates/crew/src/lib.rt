@@ -1,5 +1,5 @@
 // The workers' records side by side in one lent table: a record is taken out by value, the register's own call is made on it, and it is stored back.
-// Nodes and buckets go as two slices: a struct that held both would need a clause in each contract that it still holds the same two.
+// Nodes and buckets go as two slices: of a struct that held both, each contract would have to say besides that it still holds the same two.
 #![tactic(auto)]
 
 ghost use Rattle.std.specs.Prelude.{◌≡◌};

@@ -1,4 +1,5 @@
 // The faults of a worker's record, row by row of the scope paper's "12 is given exactly when".
+// Record, header and number come apart: the struct of all three, register's `Turn`, stands where its methods do, above this crate.
 // Every step asks them, so `|` and `&` join the numbers' tests, which needs no branch; `&&` stands before what costs more.
 #![tactic(auto)]
 

@@ -19,8 +19,9 @@ pub struct Header {
     pub busy: u32,
 }
 
+// Each change is a method of its own that hands the changed header back, the form that the scope paper names: two of them differ in a field or in what is done to it.
 impl Header {
-    // A fresh register's: size 2, count 0, nobody busy.
+    // A fresh register's: size 2, count 0, nobody busy. Four numbers, since who asks for them (`prepare`, the line of a schedule) is above this crate.
     pub fn fresh(m: u32, k: u32, w: u32, l: u32) -> Header
         ensures { result ≡ fresh m k w l }
     {

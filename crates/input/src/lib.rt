@@ -15,6 +15,7 @@ pub fn read_full<R: Read>(reader: &mut R, into: &mut [u8]) -> (usize, io::Result
     ensures end { OnOk result.1 (result.0 < length into.new → IsAtEnd (R.remaining reader.new)) }
 {
     let mut done = 0;
+    // A while, since a read may give fewer bytes than there is room for.
     while done < into.len() {
         match reader.read(&mut into[done..]) {
             Ok(0) => return (done, Ok(())),

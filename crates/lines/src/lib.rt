@@ -64,7 +64,7 @@ fn word_of_answer(answer: Answer) -> Option<&'static [u8]>
     }
 }
 
-// A number in decimal, with no zero in front.
+// A number in decimal, with no zero in front. The digits stand in a fixed buffer with their count beside it, since nothing is allocated.
 #[tactic(auto, using(crate::proofs::Digits::fewest_decimal))]
 fn put_number(page: &mut Page, n: u64)
     ensures { page.new ≡ written page.old (decimal n) }

@@ -11,9 +11,6 @@ pub mod place;
 // The largest key: figure 2 sets bit 31, and larger keys would share split keys.
 pub const KEY_LIMIT: u32 = 2147483647;
 
-// Where a record's count of steps stays.
-pub const CEILING: u32 = 4294967295;
-
 // What a call returns, in the scope paper's order of numbers.
 #[derive(Clone, Copy)]
 pub enum Answer {

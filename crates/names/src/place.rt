@@ -1,4 +1,5 @@
 // The places of an operation, by the labels of the scope paper's steps. What each means is a row of specs/Places.antt.
+// Numbers and no enum, here and for errands and kinds: a lent record can hold any number, and an unknown one is answered with 12.
 pub const IDLE: u32 = 0;
 
 pub const I1: u32 = 1;

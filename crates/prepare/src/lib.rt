@@ -1,4 +1,5 @@
 // Preparing a register over the lent tables.
+// Nodes and buckets go as two slices: of a struct that held both, each contract would have to say besides that it still holds the same two.
 #![tactic(auto)]
 
 ghost use Rattle.std.specs.Prelude.{◌≡◌};

@@ -35,6 +35,7 @@ pub struct Held {
     pub dummy: u32,
 }
 
+// Each change is a method of its own that hands the changed record back, the form that the scope paper names: two of them differ in a field.
 impl Worker {
     // A record of this place, kind and key, all else 0.
     fn fresh(place: u32, kind: u32, key: u32) -> Worker

@@ -1,4 +1,5 @@
 // The register by value: starting an operation, and one step of one worker.
+// Nodes and buckets go as two slices: of a struct that held both, each contract would have to say besides that it still holds the same two.
 #![tactic(auto)]
 
 ghost use Rattle.std.specs.Prelude.{◌≡◌};
@@ -120,7 +121,7 @@ impl Turn {
 }
 
 impl Checked {
-    // The one shared word that the step reads at its place, or the node that it found free.
+    // The one shared word that the step reads at its place, or the node that it found free. A match, since the place is a number that a lent record holds.
     #[tactic(auto, unfolding(choice::specs::Choice::pick, crate::specs::Step::word_for, crate::specs::Step::word_at, crate::specs::Step::word_given, crate::specs::Step::asked_at))]
     fn word_for(self, nodes: &[u32], buckets: &[u32]) -> u32
         ensures { result ≡ word_for self.turn (tables nodes.now buckets.now) }

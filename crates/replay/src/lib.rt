@@ -1,5 +1,5 @@
 // The run of a schedule: record after record moves the register, and the lines that it prints are laid in a lent buffer.
-// Nodes and buckets go as two slices: a struct that held both would need a clause in each contract that it still holds the same two.
+// Nodes and buckets go as two slices: of a struct that held both, each contract would have to say besides that it still holds the same two.
 #![tactic(auto)]
 
 ghost use Rattle.std.specs.Prelude.{◌≡◌};

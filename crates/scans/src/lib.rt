@@ -9,6 +9,7 @@ ghost use Rattle.scans.specs.Scans.{sweep, free_node, cleared};
 pub fn sweep(nodes: &mut [u32], n: u32, w: u32)
     ensures { nodes.new ≡ sweep w n nodes.old }
 {
+    // By index, since of a slice that `chunks_exact_mut` lent a proof knows the length alone.
     for i in 0..(n as usize).min(nodes.len() / 3) {
         let s = nodes[3 * i + 2];
         if (1..=words::LARGEST_SET).contains(&s) {
@@ -18,6 +19,7 @@ pub fn sweep(nodes: &mut [u32], n: u32, w: u32)
 }
 
 // The free node of those from node low to node high: the lowest; 0, which means nothing, where none is free.
+// No Option: 0 is the scope paper's own word for no node, and the record that keeps the number has it too.
 #[tactic(auto, using(crate::proofs::Free::looking))]
 pub fn free_node(nodes: &[u32], low: u32, high: u32) -> u32
     ensures { result ≡ free_node nodes.now low high }

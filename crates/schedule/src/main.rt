@@ -3,6 +3,7 @@
 
 use std::io;
 
+// Fixed buffers, with the count of what stands in them beside: nothing is allocated.
 fn main(rt: HostRuntime) -> io::Result<()> {
     let mut bytes = [0u8; replay::READ];
     let (read, ended) = input::read_full(&mut rt.stdin(), &mut bytes);

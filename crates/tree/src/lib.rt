@@ -31,6 +31,7 @@ pub fn on_path(bucket: u32, ancestor: u32) -> bool
 }
 
 // The bucket just below `making` on the path from the bucket to 0, whose dummy is made next; 0 where there is none.
+// No Option: the record keeps the number, and 0 is no bucket that is made.
 #[tactic(auto, using(crate::proofs::Laws::downs))]
 pub fn next_down(bucket: u32, making: u32) -> u32
     ensures { result ≡ next_down bucket making }

@@ -9,7 +9,7 @@ use std::rt::Env;
 use std::{fs, io, str};
 use text::Page;
 
-// The bytes that are kept of an argument and of a path: no file has a longer one.
+// The bytes that are kept of an argument and of a path: no file has a longer one. Buffers are fixed, with a count beside, since nothing is allocated.
 const PATH: usize = 4096;
 
 // Opens the file at a path, to read it; a path that isn't text names none.

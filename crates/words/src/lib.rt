@@ -4,14 +4,14 @@
 ghost use Rattle.std.specs.Prelude.{◌≡◌, set, slice_index};
 ghost use Rattle.words.specs.Words.{tables, lengths, word, put, bucket, store};
 
-// The three words of a node.
+// The three words of a node. Numbers and no enum, since `word` and `put` say what they do for any number.
 pub const SPLIT_KEY: u32 = 0;
 
 pub const LINK: u32 = 1;
 
 pub const STANDING: u32 = 2;
 
-// The standing of a free node.
+// The standing of a free node. Standings are numbers, since a lent word can be any.
 pub const FREE: u32 = 0;
 
 // The standing that is written for a node that is taken.
@@ -39,7 +39,7 @@ impl Lengths {
     }
 }
 
-// The word at that place of a table.
+// The word at that place of a table; 0 past its end.
 fn read(table: &[u32], at: usize) -> u32
     ensures { result ≡ slice_index table.now at }
 {

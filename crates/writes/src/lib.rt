@@ -1,4 +1,6 @@
 // A decision carried out: what a step's write leaves in the lent tables and in the header, and at an ended answer the operation closed.
+// Nodes and buckets go as two slices: of a struct that held both, each contract would have to say besides that it still holds the same two.
+// Number, header and record come apart: the struct of all three, register's `Turn`, stands where its methods do, above this crate.
 #![tactic(auto)]
 
 ghost use Rattle.std.specs.Prelude.{◌≡◌};
@@ -108,7 +110,6 @@ fn ending(number: u32, header: Header, worker: Worker, answer: Answer, effect: E
 }
 
 // A decision is carried out, in a register whose last node is `last`; damaged words change nothing.
-// The two tables are lent one by one: a struct with both would ask a clause more of each contract, that it still lends the same two.
 pub fn carry(
     last: u32,
     number: u32,
