@@ -70,10 +70,11 @@ fn kind_misfit(x: Worker) -> bool
 fn errand_misfit(x: Worker) -> bool
     ensures { result ≡ errand_misfit x }
 {
-    let dummy_or_insert = (x.errand == errand::DUMMY)
-        | ((x.errand == errand::KEY) & (x.kind == kind::INSERT));
-    let extra = matches!(x.place, place::F1..=place::L2) & (x.errand == errand::EXTRA);
-    ((x.place == place::L2) & !dummy_or_insert) | (extra & (x.kind != kind::DELETE))
+    if (x.errand == errand::EXTRA) & (x.kind != kind::DELETE) {
+        return matches!(x.place, place::F1..=place::L2);
+    }
+    x.place == place::L2
+        && !((x.errand == errand::DUMMY) | ((x.errand == errand::KEY) & (x.kind == kind::INSERT)))
 }
 
 #[tactic(auto, using(names::proofs::Places::makes_at), unfolding(crate::specs::Faults::making_astray))]
