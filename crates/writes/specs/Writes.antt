@@ -1,5 +1,5 @@
 -- What each effect leaves in the node words and in the header, and what it asks to be stored in the buckets.
-use Rattle.std.specs.Prelude.{ℕ, Bool, true, false, List}
+use Rattle.std.specs.Prelude.{ℕ, true, false, List}
 use Rattle.words.specs.Words.{Tables, tables, SPLIT_KEY, LINK, STANDING, FREE, TAKEN, put, store, link_to}
 use Rattle.header.specs.declared.Header.{Header}
 use Rattle.header.specs.Header.{sized, counted}
@@ -10,20 +10,6 @@ use Rattle.acts.specs.declared.Effect.TheVariants.{Nothing, TakeKey, TakeDummy, 
 pub data Stores : Type 0 where
   none : Stores
   into : (bucket node : ℕ) → Stores
-
--- the step reads, and writes nothing
-abbrev pub is_nothing : Effect → Bool
-is_nothing Nothing = true
-is_nothing (TakeKey n split) = false
-is_nothing (TakeDummy n split) = false
-is_nothing (Free n) = false
-is_nothing (Aim n next) = false
-is_nothing (Place n next prev) = false
-is_nothing (Mark n next) = false
-is_nothing (Unlink prev next n busy) = false
-is_nothing (Store b n) = false
-is_nothing (Count v) = false
-is_nothing (Size v) = false
 
 -- node n is taken, with its split key
 abbrev pub taken : ℕ → ℕ → List ℕ → List ℕ
