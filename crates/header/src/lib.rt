@@ -154,7 +154,7 @@ impl Header {
     pub fn doubles(self, size: u32, old: u32) -> bool
         ensures { result ≡ doubles self size old }
     {
-        (old < 2147483648)
+        (0 <= old.cast_signed())
             & old.checked_div(size).is_some_and(|load| self.l < load)
             & (size < self.m)
     }

@@ -12,8 +12,10 @@ use borrow.Author.Tests.{ltb-false, lt-ltb, le-ltb}
 use Rattle.choice.specs.Choice.{pick}
 use Rattle.choice.proofs.Auto.{pick_true, pick_false}
 use Rattle.choice.proofs.Cases.{by_lt}
-use Rattle.io.specs.Digits.{hex_digit_ascii, last_digits, IsDigitCount}
-use Rattle.lines.specs.Decimal.{digits_in, decimal}
+use Rattle.std.specs.Fmt.{decimal as text, signed_decimal}
+use Rattle.std.specs.Int.{w32, cast_signed}
+use Rattle.std.proofs.lemmas.Fmt.{decimal_by_steps}
+use Rattle.lines.specs.Decimal.{digits_in, decimal, signed}
 
 -- two choices that differ in the second way alone
 same_else : {A : Type 0} (t : Bool) (a : A) {b b' : A} → (t ≡ false → b ≡ b') → pick t a b ≡ pick t a b'
@@ -42,10 +44,6 @@ decimal_large n h =
     pick_false (ltb n 10) ((48 + n) ∷ []) (digits_in n (n / 10) ++ ((48 + n % 10) ∷ [])) (le-ltb n 10 h)
     ∙ ap (λ (ds : List ℕ). ds ++ ((48 + n % 10) ∷ [])) (digits_most n (suc (n / 10)) (n / 10) (omega arith) (omega arith))
 
--- the sign of a digit below ten
-glyph_small : (d : ℕ) → d < 10 → hex_digit_ascii d ≡ 48 + d
-glyph_small d h = rw (lt-ltb d 10 h)
-
 -- powers of ten
 ten_lt : (k n : ℕ) → n < 10 ^ suc k → n / 10 < 10 ^ k
 ten_lt k n h = (div-lt_iff_lt-mul {k = 10} {x = n} {y = 10 ^ k} (omega arith)).1 (rw pow-suc at h)
@@ -57,21 +55,9 @@ ten_pos : (k : ℕ) → 1 ≤ 10 ^ k
 ten_pos zero = omega arith
 ten_pos (suc k) = rw pow-suc (omega (arith, ten_pos k))
 
--- the fewest digits that hold a number are its digits
-pub fewest_decimal : (k n : ℕ) → IsDigitCount 10 1 n k → last_digits 10 k n ≡ decimal n
-fewest_decimal zero n h = absurd (omega arith)
-fewest_decimal (suc zero) n h = let s : n < 10 = h.1 in let e : n % 10 ≡ n = omega arith in rw (e, glyph_small n s) (sym (decimal_small n s))
-fewest_decimal (suc (suc k)) n h =
-    rw (decimal_large n large, glyph_small (n % 10) (omega arith), fewest_decimal (suc k) (n / 10) (omega arith, ten_lt (suc k) n h.1, λ m. rest))
-  where
-    least : 10 ^ suc k ≤ n
-    least = let e : suc (suc k) - 1 ≡ suc k = omega arith in rw e at (h.2 (omega arith))
-
-    rest : 10 ^ (suc k - 1) ≤ n / 10
-    rest = let e : suc k - 1 ≡ k = omega arith in rw e (ten_le k n least)
-
-    large : 10 ≤ n
-    large = omega (arith, least, pow-suc 10 k, ten_pos k)
+-- what the library writes of a number is its digits
+pub library_decimal : (n : ℕ) → n < 18446744073709551616 → text n ≡ decimal n
+library_decimal = decimal_by_steps (λ m ds. ds ≡ decimal m) (λ m l. sym (decimal_small m l)) (λ m ds l h. rw (h, decimal_large m l) refl)
 
 -- how many digits there are at most
 digits_length : (most k n : ℕ) → 0 < k → n < 10 ^ k → length (digits_in most n) ≤ k
@@ -87,3 +73,14 @@ digits_length (suc most) (suc (suc k)) n p h =
 pub decimal_length : (k n : ℕ) → 0 < k → n < 10 ^ k → length (decimal n) ≤ k
 unfolding decimal
 decimal_length k n p h = digits_length (suc n) k n p h
+
+-- and of a word that is read as a signed number
+pub library_signed : (n : ℕ) → n < 4294967296 → signed_decimal (cast_signed w32 n) ≡ signed n
+unfolding signed
+library_signed n h = at (ltb n 2147483648) refl
+  where
+    at : (t : Bool) → ltb n 2147483648 ≡ t → signed_decimal (cast_signed w32 n) ≡ signed n
+    at true e = rw (e, pick_true true (decimal n) (45 ∷ decimal (4294967296 - n)) refl) (library_decimal n (omega (arith, h)))
+    at false e =
+        let k : suc (4294967296 - suc n) ≡ 4294967296 - n = omega (arith, h) in
+        rw (e, k, pick_false false (decimal n) (45 ∷ decimal (4294967296 - n)) refl) (ap (λ (ds : List ℕ). 45 ∷ ds) (library_decimal (4294967296 - n) (omega (arith, h))))

@@ -13,6 +13,7 @@ use text::Page;
 // A line, by what it tells; numbers as the scope paper has them.
 #[derive(Clone, Copy)]
 pub enum Line {
+    // Four numbers, as the line has them: who asks for them, `prepare::Limits`, is above this crate.
     Register {
         m: u32,
         k: u32,
@@ -64,14 +65,12 @@ fn word_of_answer(answer: Answer) -> Option<&'static [u8]>
     }
 }
 
-// A number in decimal, with no zero in front. The digits stand in a fixed buffer with their count beside it, since nothing is allocated.
-#[tactic(auto, using(crate::proofs::Digits::fewest_decimal))]
+// A number in decimal, with no zero in front.
+#[tactic(auto, using(crate::proofs::Digits::library_decimal))]
 fn put_number(page: &mut Page, n: u64)
     ensures { page.new ≡ written page.old (decimal n) }
 {
-    let mut digits = [0u8; 20];
-    let count = io::decimal(n, &mut digits);
-    page.put(&digits[..count]);
+    page.put(itoa::Buffer::new().format(n).as_bytes());
 }
 
 // A space, and the word after it.
@@ -93,16 +92,12 @@ fn put_next(page: &mut Page, n: u64)
 }
 
 // A space, and the count after it, read as a signed number.
-#[tactic(auto, using(text::proofs::Laying::written_on), unfolding(crate::specs::Decimal::signed, choice::specs::Choice::pick))]
+#[tactic(auto, using(text::proofs::Laying::written_on, crate::proofs::Digits::library_signed))]
 fn put_signed(page: &mut Page, count: u32)
     ensures { page.new ≡ written page.old (32 ∷ signed count) }
 {
-    let count = count.cast_signed();
     page.put(b" ");
-    if count < 0 {
-        page.put(b"-");
-    }
-    put_number(page, count.unsigned_abs().into());
+    page.put(itoa::Buffer::new().format(count.cast_signed()).as_bytes());
 }
 
 // The line of an operation that ended; nothing where the kind has no word or no operation ended.

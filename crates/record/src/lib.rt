@@ -46,7 +46,7 @@ impl Worker {
             errand: errand::KEY,
             kind,
             key,
-            ..Worker::default()
+            ..Self::default()
         }
     }
 

@@ -4,8 +4,9 @@ use Prim.Native.Nat.{ℕ, zero, suc, ◌+◌, ◌*◌, ◌/◌, ◌%◌, ◌^◌
 use native.Mathlib.Nat.{pow-suc, mul_assoc, add-mul, mul_comm, zero-mul, one-mul, mod-le, mod-eq_of_lt}
 use native.Mathlib.Numerals.{add-one}
 use native.Mathlib.Omega.{arith}
-use mathlib.Core.Path.{◌≡◌, refl}
+use mathlib.Core.Path.{◌≡◌, ◌∙◌, refl}
 use mathlib.Core.Logic.{◌⊎◌, inl, inr, ⊎_elim}
+use Rattle.std.specs.Int.{w32, reverse_bits, reverse_bits_onto}
 use lib.Pow.{mod-pow-add}
 use Rattle.split.specs.Split.{rev, reverse, regular, dummy}
 
@@ -20,9 +21,15 @@ rev_zero x = refl
 pub double : (k : ℕ) → 2 ^ suc k ≡ 2 ^ k + 2 ^ k
 double k = omega (arith, pow-suc 2 k)
 
--- one turn of the loop of `reverse`
-pub rev_turn : (k r y : ℕ) → (r * 2 + y % 2) * 2 ^ k + rev k (y / 2) ≡ r * 2 ^ suc k + rev (suc k) y
-rev_turn k r y = rw (rev_suc k y, pow-suc 2 k, add-mul (r * 2) (y % 2) (2 ^ k), mul_assoc r 2 (2 ^ k), mul_comm 2 (2 ^ k)) (omega arith)
+-- the library's reversal, onto the bits that are reversed already
+reversed_onto : (k x a : ℕ) → reverse_bits_onto k x a ≡ a * 2 ^ k + rev k x
+unfolding reverse_bits_onto rev
+reversed_onto zero x a = omega arith
+reversed_onto (suc k) x a = reversed_onto k (x / 2) (a * 2 + x % 2) ∙ rw (pow-suc 2 k, add-mul (a * 2) (x % 2) (2 ^ k), mul_assoc a 2 (2 ^ k), mul_comm 2 (2 ^ k)) (omega arith)
+
+pub reversed : (x : ℕ) → reverse_bits w32 x ≡ reverse x
+unfolding reverse
+reversed x = omega (arith, reversed_onto 32 x 0)
 
 bit : (x : ℕ) → (x % 2 ≡ 0) ⊎ (x % 2 ≡ 1)
 bit x = two (x % 2) (omega arith) where

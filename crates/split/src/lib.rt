@@ -5,16 +5,11 @@ ghost use Rattle.std.specs.Prelude.{◌≡◌};
 ghost use Rattle.split.specs.Split.{reverse, regular, dummy};
 
 // The 32 bits of x in reverse, lowest bit first: the order in which recursive split-ordering compares keys.
+#[tactic(auto, using(crate::proofs::Laws::reversed))]
 fn reverse(x: u32) -> u32
     ensures { result ≡ reverse x }
 {
-    let mut r: u32 = 0;
-    let mut y = x;
-    for _ in 0..u32::BITS {
-        r = r * 2 + y % 2;
-        y /= 2;
-    }
-    r
+    x.reverse_bits()
 }
 
 // A regular key's split key: the reversal of the key with its top bit set, so that it comes after its bucket's dummy.

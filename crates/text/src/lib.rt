@@ -1,4 +1,4 @@
-// A text laid in a lent buffer. Every function is total: what would stand past the buffer's end is not stored, and the place where a text ends stops at that end.
+// A page: a lent buffer, on which texts are laid one after the other. Every function is total: what would stand past the buffer's end is not stored, and the place where a text ends stops at that end.
 #![tactic(auto)]
 
 ghost use Rattle.std.specs.Prelude.{◌≡◌, take};
@@ -29,6 +29,7 @@ impl<'a> Page<'a> {
         self.buffer[start..end].copy_from_slice(&text[..end - start]);
         self.end = end;
     }
+
     // What is written.
     pub fn text(&self) -> &[u8]
         ensures { result.now ≡ take self.now.end self.now.buffer.now }

@@ -5,15 +5,14 @@ ghost use Rattle.std.specs.Prelude.{◌≡◌};
 ghost use Rattle.tree.specs.Tree.{parent_of, on_path, next_down, power_up_to};
 
 // A bucket's parent, the bucket that it was split from: its number with the top set bit cleared.
-#[tactic(auto, using(crate::proofs::Laws::parents), unfolding(crate::specs::Tree::parent_of))]
+#[tactic(auto, using(crate::proofs::Laws::parent_zero, crate::proofs::Laws::parent_cleared))]
 pub fn parent(bucket: u32) -> u32
     ensures { result ≡ parent_of bucket }
 {
-    if bucket <= 1 {
-        return 0;
+    match bucket.checked_ilog2() {
+        Some(top) => bucket - (1 << top),
+        None => 0,
     }
-    let p = parent(bucket / 2);
-    p * 2 + bucket % 2
 }
 
 // Is the ancestor on the path from the bucket to bucket 0, whose dummies are made before the bucket's own?

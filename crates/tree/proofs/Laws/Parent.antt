@@ -5,6 +5,7 @@ use native.Mathlib.Nat.{pow-suc}
 use native.Mathlib.Omega.{arith}
 use mathlib.Core.Path.{◌≡◌, refl, sym, ◌∙◌}
 use lib.Dec.{leb}
+use Rattle.std.proofs.lemmas.Nat.{one_shl}
 use lib.Pow.{pow_pos}
 use borrow.Author.Tests.{leb-false, le-leb, lt-leb}
 use Rattle.choice.specs.Choice.{pick}
@@ -68,3 +69,7 @@ par_clears (suc k) (suc i) b h l u =
 pub parent_clears : (i b : ℕ) → 2 ^ i ≤ b → b < 2 ^ suc i → i < 32 → parent_of b ≡ b - 2 ^ i
 unfolding parent_of
 parent_clears i b l u h = par_clears 32 i b h l u
+
+-- the same, as code says it
+pub parent_cleared : (i b : ℕ) → 2 ^ i ≤ b → b < 2 * 2 ^ i → i < 32 → b - 1 * 2 ^ i % 4294967296 ≡ parent_of b
+parent_cleared i b l u h = rw (one_shl i 32 h) (sym (parent_clears i b l (omega (arith, pow-suc 2 i)) h))
