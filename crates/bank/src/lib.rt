@@ -1,5 +1,5 @@
 // The table of records by value, lent for a call and taken back: whoever holds a register needs no slice of worker structs of its own.
-// Nodes and buckets go as two slices: of a struct that held both, each contract would have to say besides that it still holds the same two.
+// Nodes and buckets go as two slices: C lends them so, and `call_same`, `prepare_is_first` and `serve_is_next` speak of the two as the calls' own arguments.
 #![tactic(auto)]
 
 ghost use Rattle.std.specs.Prelude.{◌≡◌};
@@ -12,16 +12,20 @@ use prepare::Limits;
 use record::Worker;
 use register::Call;
 
-// The table by value, with what the call hands back.
+// The most workers that a register has.
+pub const MOST_WORKERS: usize = 16;
+
+// The table by value, with what the call hands back. Sixteen records in an array, since nothing is allocated.
+// The header is handed in and handed back by value beside the records, the form that the scope paper names.
 #[derive(Clone, Copy)]
 pub struct Bank {
     pub called: Called,
-    pub workers: [Worker; 16],
+    pub workers: [Worker; MOST_WORKERS],
 }
 
 // The table by value, lent for a preparing and taken back.
 pub fn prepare(
-    workers: [Worker; 16],
+    workers: [Worker; MOST_WORKERS],
     limits: Limits,
     header: Header,
     nodes: &mut [u32],
@@ -39,7 +43,7 @@ pub fn prepare(
 
 // The table by value, lent for a call and taken back.
 pub fn serve(
-    workers: [Worker; 16],
+    workers: [Worker; MOST_WORKERS],
     w: u32,
     header: Header,
     call: Call,

@@ -106,7 +106,7 @@ fn put_ended(page: &mut Page, worker: u32, kind: u32, key: u32, answer: Answer, 
     ensures { page.new ≡ written page.old (ended_line worker kind key answer steps) }
 {
     let (Some(what), Some(told)) = (word_of_kind(kind), word_of_answer(answer)) else {
-        // Nothing is laid as any text is: an end past the buffer comes back to the buffer's end.
+        // The empty text is laid, so that an end past the buffer comes back to the buffer's end.
         return page.put(b"");
     };
     put_number(page, worker.into());

@@ -51,10 +51,11 @@ later_record (Ok None) = Ok None
 later_record (Ok (Some r)) = unless_prepares r.kind r
 
 -- ---- the end of a run
--- what stops the run at an offset; the input's end prints nothing
+-- what stops the run at an offset: the input's end prints nothing, and a record that stood there would be out of place
 abbrev pub stop_said : Result (Option Record) Refusal → ℕ → List ℕ
 stop_said (Err refusal) offset = refused_line (refusal_number refusal) offset
-stop_said (Ok _) offset = []
+stop_said (Ok None) offset = []
+stop_said (Ok (Some r)) offset = refused_line (refusal_number Misplaced) offset
 
 unfoldable pub stop_line : List ℕ → ℕ → List ℕ
 stop_line input offset = stop_said (later_record (entry_at input offset)) offset

@@ -1,5 +1,5 @@
 // The run of a schedule: record after record moves the register, and the lines that it prints are laid in a lent buffer.
-// Nodes and buckets go as two slices: of a struct that held both, each contract would have to say besides that it still holds the same two.
+// Nodes and buckets go as two slices: C lends them so, and `call_same`, `prepare_is_first` and `serve_is_next` speak of the two as the calls' own arguments.
 #![tactic(auto)]
 
 ghost use Rattle.std.specs.Prelude.{◌≡◌};
@@ -11,7 +11,7 @@ ghost use Rattle.lines.specs.Lines.{refused_line};
 ghost use Rattle.replay.specs.Play.{buckets_of, limits_of, opened, number_in, call_of, played, operation_of, call_line};
 ghost use Rattle.replay.specs.Replay.{refusal_number, refusal_of, first_record, later_record, stop_line, last_line, first_line, beginning, printed};
 
-use bank::Bank;
+use bank::{Bank, MOST_WORKERS};
 use header::Header;
 use lines::Line;
 use names::Answer;
@@ -28,9 +28,6 @@ const MOST_NODES: u32 = 5136;
 const NODE_WORDS: usize = 3 * MOST_NODES as usize;
 
 const MOST_BUCKETS: usize = 1024;
-
-// The most workers that a register has.
-const MOST_WORKERS: usize = 16;
 
 // The longest schedule.
 const LONGEST: usize = 65536;
@@ -78,7 +75,7 @@ impl From<Fault> for Refusal {
     }
 }
 
-// M; an exponent outside 1 to 10 stands for none.
+// M; an exponent outside 1 to 10 stands for none. That is 0 and no Option: preparing itself refuses 0 with 10, so one place says it.
 #[tactic(auto, unfolding(crate::specs::Play::buckets_of, choice::specs::Choice::pick))]
 fn buckets_of(exponent: u32) -> u32
     ensures { result ≡ buckets_of exponent }
@@ -216,8 +213,10 @@ fn put_stop(page: &mut Page, schedule: &[u8], offset: usize)
     ensures { page.new ≡ written page.old (stop_line schedule.now offset) }
 {
     match later_at(schedule, offset) {
-        // Nothing is laid as any text is: an end past the buffer comes back to the buffer's end.
-        Ok(_) => page.put(b""),
+        // The empty text is laid, so that an end past the buffer comes back to the buffer's end.
+        Ok(None) => page.put(b""),
+        // No record is left here; one that stood here would be out of place.
+        Ok(Some(_)) => put_refused(page, Refusal::Misplaced.number(), offset),
         Err(refusal) => put_refused(page, refusal.number(), offset),
     }
 }
@@ -284,6 +283,7 @@ fn put_run(page: &mut Page, schedule: &[u8])
     }
     match first_at(schedule) {
         Ok(next) => {
+            // Arrays of the most words that a register has, since nothing is allocated.
             let mut nodes = [0u32; NODE_WORDS];
             let mut buckets = [0u32; MOST_BUCKETS];
             begin(schedule, next, &mut nodes, &mut buckets, page);

@@ -4,15 +4,15 @@
 ghost use Rattle.std.specs.Prelude.{◌≡◌};
 ghost use Rattle.script.specs.Script.{kind_of, body_length, entry_at, body_at};
 
-// The kinds of record, in the order of their bytes from 00 on.
+// The kinds of record, each with its byte.
 #[derive(Clone, Copy, PartialEq, Eq)]
 pub enum Kind {
-    Prepare,
-    Insert,
-    Find,
-    Delete,
-    Step,
-    Steps,
+    Prepare = 0,
+    Insert = 1,
+    Find = 2,
+    Delete = 3,
+    Step = 4,
+    Steps = 5,
 }
 
 // Why no record can be read at an offset.
@@ -64,6 +64,7 @@ impl Kind {
 }
 
 // The record at an offset of the input, None where the input ends there or before. The kind is looked at before the length.
+// On a slice and an offset, and not on a `Reader`: the scope paper has the reader's functions thin over covered ones.
 #[tactic(auto, unfolding(crate::specs::Script::entry_at, choice::specs::Choice::pick))]
 pub fn record_at(input: &[u8], at: usize) -> Result<Option<Record>, Fault>
     ensures { result ≡ entry_at input.now at }
