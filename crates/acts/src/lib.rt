@@ -75,7 +75,7 @@ pub enum Move {
     Ended { answer: Answer, effect: Effect },
 }
 
-// What a call hands back beside a record; an ended answer gives the operation's steps.
+// What a call hands back beside a record; an ended answer gives the operation's steps, and any other 0, as C reads the reply.
 #[derive(Clone, Copy)]
 pub struct Called {
     pub answer: Answer,

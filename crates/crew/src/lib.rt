@@ -1,5 +1,6 @@
 // The workers' records side by side in one lent table: a record is taken out by value, the register's own call is made on it, and it is stored back.
-// Nodes and buckets go as two slices: of a struct that held both, each contract would have to say besides that it still holds the same two.
+// Nodes and buckets go as two slices: C lends them so, and `call_same`, `prepare_is_first` and `serve_is_next` speak of the two as the calls' own arguments.
+// The header is handed in and handed back by value beside the lent records, the form that the scope paper names.
 #![tactic(auto)]
 
 ghost use Rattle.std.specs.Prelude.{◌≡◌};
@@ -89,6 +90,7 @@ fn serve_one(
 }
 
 // Worker w is called, on its record in the table; a step is made up to `most` times, ending after the first whose answer isn't 0.
+// A start takes no count, but stands beside one here, as in `serve_at`: one definition says both calls.
 pub fn serve(
     workers: &mut [Worker],
     w: u32,
@@ -102,7 +104,7 @@ pub fn serve(
 {
     let len = workers.len();
     let at = w as usize;
-    // Read here and stored by its index below, since a proof knows nothing of the table after a `get_mut`.
+    // Read here and stored by its index below, since a proof knows no record of the table after a `get_mut`.
     let Some(&worker) = workers.get(at) else {
         return past(header, call, most, len, Lengths::of(nodes, buckets));
     };

@@ -1,5 +1,5 @@
 // The places of an operation, by the labels of the scope paper's steps. What each means is a row of specs/Places.antt.
-// Numbers and no enum, here and for errands and kinds: a lent record can hold any number, and an unknown one is answered with 12.
+// Numbers and no enum, here and for errands and kinds: a lent record can hold any number, and `StepExactly` says what an unknown one is answered.
 pub const IDLE: u32 = 0;
 
 pub const I1: u32 = 1;

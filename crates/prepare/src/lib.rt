@@ -1,5 +1,5 @@
 // Preparing a register over the lent tables.
-// Nodes and buckets go as two slices: of a struct that held both, each contract would have to say besides that it still holds the same two.
+// Nodes and buckets go as two slices: C lends them so, and `call_same`, `prepare_is_first` and `serve_is_next` speak of the two as the calls' own arguments.
 #![tactic(auto)]
 
 ghost use Rattle.std.specs.Prelude.{◌≡◌};

@@ -1,5 +1,5 @@
 // The register by value: starting an operation, and one step of one worker.
-// Nodes and buckets go as two slices: of a struct that held both, each contract would have to say besides that it still holds the same two.
+// Nodes and buckets go as two slices: C lends them so, and `call_same`, `prepare_is_first` and `serve_is_next` speak of the two as the calls' own arguments.
 #![tactic(auto)]
 
 ghost use Rattle.std.specs.Prelude.{◌≡◌};
@@ -141,7 +141,7 @@ impl Checked {
         }
     }
 
-    // At F3 the split key of cur is read in the same step.
+    // At F3 the split key of cur is read in the same step. 0, and no Option, where nothing is read, as `seen_by` has it.
     #[tactic(auto, unfolding(choice::specs::Choice::pick, crate::specs::Step::split_for))]
     fn split_for(self, nodes: &[u32]) -> u32
         ensures { result ≡ split_for self.turn nodes.now }

@@ -54,7 +54,7 @@ impl From<Called> for Reply {
     }
 }
 
-// The header that seven words are; a function, since a `From` that makes one stands where `Header` is declared.
+// The header that seven words are. A function, here and for the three below: the order of the words is this library's, and a `From` could only stand where the struct does.
 fn header_of(words: [u32; HEADER]) -> Header
     ensures { result ≡ header_of words }
 {
@@ -144,7 +144,7 @@ fn store_record(records: &mut [u32], w: u32, x: Worker)
     ensures { records.new ≡ record_put records.old w (record_words x) }
 {
     let at = (w as usize) * RECORD;
-    // A test, and not `get_mut`, after which a proof knows nothing of the table.
+    // A test, and not `get_mut`, after which a proof knows no word of the table.
     if at + RECORD <= records.len() {
         // Word by word: a copy of the whole array goes over the stack, 36 instructions more at every step.
         for (i, word) in record_words(x).iter().enumerate() {
@@ -160,7 +160,7 @@ fn lacks_records(len: usize, w: u32) -> bool
     len < (w as usize) * RECORD
 }
 
-// What a call hands back goes into the words, unless it is refused.
+// What a call hands back goes into the words, unless it is refused. Each way ends by itself: one end for both is nine instructions more a step.
 #[tactic(auto, unfolding(choice::specs::Choice::pick, crate::specs::Calls::kept))]
 fn keep(header: &mut [u32; HEADER], records: &mut [u32], w: u32, out: Outcome) -> Reply
     ensures { replied result header.new records.new ≡ kept header.old records.old w out }
