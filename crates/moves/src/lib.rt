@@ -10,6 +10,7 @@ use header::Header;
 use names::{Answer, errand, kind, place};
 use record::Worker;
 use std::cmp::Ordering;
+use words::Link;
 
 mod buckets;
 mod changes;
@@ -23,12 +24,16 @@ pub struct Seen {
     pub split: u32,
 }
 
-// The link word is (0, n): unmarked, with n its next node. Compared in 64 bits, so that no number is cut.
+// The link word is (0, n): unmarked, with n its next node. Taken apart and not packed, so that no number is cut.
 #[tactic(auto, unfolding(words::specs::Words::is_to))]
 fn is_to(link: u32, n: u32) -> bool
     ensures { result ≡ is_to link n }
 {
-    (link as u64) == (n as u64) * 2
+    let unmarked = Link {
+        next: n,
+        marked: false,
+    };
+    Link::from(link) == unmarked
 }
 
 // The wanted split key: a dummy's, or the key's.
@@ -164,7 +169,7 @@ impl Seen {
         if self.bad_read(x.start) {
             return Move::Damaged;
         }
-        comes(x, x.start, self.word / 2, Effect::Nothing)
+        comes(x, x.start, Link::from(self.word).next, Effect::Nothing)
     }
 
     #[tactic(auto, unfolding(choice::specs::Choice::pick, crate::specs::Moves::f2))]

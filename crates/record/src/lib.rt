@@ -6,6 +6,7 @@ ghost use Rattle.record.specs.Fields.{to, with_errand, with_wanted, with_making,
 ghost use Rattle.record.specs.Worker.{fresh, idle, begun, coming_to, reading, ticked, holds};
 
 use names::{errand, kind, place};
+use words::Link;
 
 // One worker's record: where it is in its operation, and what it remembers from the steps before.
 #[derive(Clone, Copy, Default, PartialEq, Eq)]
@@ -130,9 +131,10 @@ impl Worker {
     pub fn reading(self, link: u32) -> Worker
         ensures { result ≡ reading link self }
     {
+        let Link { next, marked } = Link::from(link);
         Worker {
-            next: link / 2,
-            marked: link % 2 == 1,
+            next,
+            marked,
             ..self
         }
     }

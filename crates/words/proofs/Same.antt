@@ -15,9 +15,19 @@ use Rattle.words.proofs.put.Reads as put
 use Rattle.words.proofs.put.Kinds as put-kinds
 use Rattle.words.proofs.store.Reads as store
 use Rattle.words.proofs.store.Kinds as store-kinds
+use Rattle.words.proofs.LinkFromU32.from.Reads as link_from
+use Rattle.words.proofs.LinkFromU32.from.Kinds as link-from-kinds
+use Rattle.words.proofs.U32FromLink.from.Reads as word_from
+use Rattle.words.proofs.U32FromLink.from.Kinds as word-from-kinds
 
 pub lengths_of_same : Determined 2 lengths_of-kinds.ps lengths_of-kinds.r lengths_of.Post
 lengths_of_same κs a x y e f p q = p ∙ sym q
+
+pub link_from_same : Determined 0 link-from-kinds.ps link-from-kinds.r link_from.Post
+link_from_same κs a x y e f p q = p ∙ sym q
+
+pub word_from_same : Determined 0 word-from-kinds.ps word-from-kinds.r word_from.Post
+word_from_same κs a x y e f p q = p ∙ sym q
 
 pub word_same : Determined 1 word-kinds.ps word-kinds.r word.Post
 word_same κs a x y e f p q = p ∙ sym q

@@ -1,8 +1,9 @@
 -- The lent tables: what their words mean, what is read of them and what is stored.
 -- A node is three words. Nodes are numbered from 1, and 0 means nothing: it reads 0 and a store to it does nothing.
-use Rattle.std.specs.Prelude.{ℕ, zero, suc, ◌+◌, ◌*◌, ◌%◌, Bool, List, eqb, length, get_or, set}
+use Rattle.std.specs.Prelude.{ℕ, zero, suc, ◌+◌, ◌*◌, ◌/◌, ◌%◌, Bool, List, eqb, length, get_or, set}
 use Rattle.choice.specs.Choice.{pick}
 use Rattle.words.specs.declared.Lengths.{Lengths}
+use Rattle.words.specs.declared.Link.{Link}
 
 -- ---- what is lent beside header and records
 pub record Tables : Type 0 where
@@ -63,6 +64,10 @@ bucket bs b = get_or bs b 0
 -- the buckets once v is stored in the word of bucket b; past the table's end nothing is
 unfoldable pub store : List ℕ → ℕ → ℕ → List ℕ
 store bs b v = set bs b v
+
+-- a link word taken apart: the next node is half of it, and it is marked where the remainder by 2 is 1
+abbrev pub link_of : ℕ → Link
+link_of word = record { next = word / 2; marked = eqb (word % 2) 1 }
 
 -- a link as one word: twice the number of the next node, and the mark
 unfoldable pub link_word : ℕ → ℕ → ℕ

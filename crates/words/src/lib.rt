@@ -2,7 +2,7 @@
 #![tactic(auto)]
 
 ghost use Rattle.std.specs.Prelude.{◌≡◌, set, slice_index};
-ghost use Rattle.words.specs.Words.{tables, lengths, word, put, bucket, store};
+ghost use Rattle.words.specs.Words.{tables, lengths, word, put, bucket, store, link_of, link_to};
 
 // The three words of a node. Numbers and no enum, since `word` and `put` say what they do for any number.
 pub const SPLIT_KEY: u32 = 0;
@@ -36,6 +36,36 @@ impl Lengths {
             nodes: nodes.len(),
             buckets: buckets.len(),
         }
+    }
+}
+
+// A link word taken apart: the next node, and the mark of the node that has the link.
+#[derive(Clone, Copy, PartialEq, Eq)]
+pub struct Link {
+    pub next: u32,
+    pub marked: bool,
+}
+
+impl From<u32> for Link {
+    ghost from_gives = { λ word link. link ≡ link_of word };
+
+    fn from(word: u32) -> Link {
+        Link {
+            next: word / 2,
+            marked: word % 2 == 1,
+        }
+    }
+}
+
+// Twice the next node's number, and the mark. What passes 32 bits is cut.
+impl From<Link> for u32 {
+    ghost from_gives = { λ link word. word ≡ link_to link.next link.marked };
+
+    #[tactic(auto, unfolding(crate::specs::Words::link_to, crate::specs::Words::link_word, choice::specs::Choice::pick))]
+    fn from(link: Link) -> u32 {
+        link.next
+            .wrapping_mul(2)
+            .wrapping_add(u32::from(link.marked))
     }
 }
 

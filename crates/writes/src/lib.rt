@@ -12,20 +12,14 @@ use acts::{Called, Effect, Move, Outcome};
 use header::Header;
 use names::Answer;
 use record::Worker;
-
-// The link to node next, marked or not, as one word: twice the node's number, and the mark. What passes 32 bits is cut.
-#[tactic(auto, unfolding(words::specs::Words::link_to, words::specs::Words::link_word, choice::specs::Choice::pick))]
-fn link_to(next: u32, marked: bool) -> u32
-    ensures { result ≡ link_to next marked }
-{
-    next.wrapping_mul(2).wrapping_add(u32::from(marked))
-}
+use words::Link;
 
 // Node n's link is to the next node, marked or not.
 fn aim(nodes: &mut [u32], n: u32, next: u32, marked: bool)
     ensures { nodes.new ≡ put nodes.old n LINK (link_to next marked) }
 {
-    words::put(nodes, n, words::LINK, link_to(next, marked));
+    let link = u32::from(Link { next, marked });
+    words::put(nodes, n, words::LINK, link);
 }
 
 // Node n is taken, with its split key.
