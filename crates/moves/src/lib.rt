@@ -15,7 +15,7 @@ use words::Link;
 mod buckets;
 mod changes;
 
-// What a step sees: what it is handed, the shared word that it read, and at F3 the split key of cur.
+// What a step sees: what it is handed, the shared word that it read, and at F3 the split key of cur; 0 and no Option where nothing is read, as `seen_by` has it.
 #[derive(Clone, Copy)]
 pub struct Seen {
     pub header: Header,

@@ -69,7 +69,7 @@ impl From<Link> for u32 {
     }
 }
 
-// The word at that place of a table; 0 past its end.
+// The word at that place of a table; 0 past its end. The byte of a body in `numbers` is read by the same line: a crate for both would be no plainer.
 fn read(table: &[u32], at: usize) -> u32
     ensures { result ≡ slice_index table.now at }
 {

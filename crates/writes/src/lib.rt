@@ -1,5 +1,5 @@
 // A decision carried out: what a step's write leaves in the lent tables and in the header, and at an ended answer the operation closed.
-// Nodes and buckets go as two slices: of a struct that held both, each contract would have to say besides that it still holds the same two.
+// Nodes and buckets go as two slices: C lends them so, and `call_same`, `prepare_is_first` and `serve_is_next` speak of the two as the calls' own arguments.
 // Number, header and record come apart: the struct of all three, register's `Turn`, stands where its methods do, above this crate.
 #![tactic(auto)]
 
