@@ -38,7 +38,7 @@ pub const READ: usize = LONGEST + 1;
 // The bytes that hold what any schedule prints: nine for each byte of the longest schedule.
 pub const PRINTED: usize = 9 * LONGEST;
 
-// Whose operation a record is about: the worker, and the kind and key that its record has.
+// Whose operation a record is about: the worker, and the kind and key that its record has. A line names them one by one, as `line_text` does.
 #[derive(Clone, Copy)]
 struct Operation {
     worker: u32,

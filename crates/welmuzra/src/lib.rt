@@ -88,7 +88,7 @@ fn place_of(mark: u32, place: u32) -> u32
     place
 }
 
-// Record w of a table that has it.
+// Record w of a table that has it. By index, since of a slice a pattern would need an arm that never comes.
 fn record_at(records: &[u32], w: u32) -> Worker
     requires { w * RECORD + RECORD ≤ length records.now }
     ensures { result ≡ record_of (words_at records.now w) }
