@@ -3,7 +3,8 @@
 use mathlib.Core.Path.{◌≡◌, refl, sym, ◌∙◌}
 use mathlib.Core.Logic.{◌≢◌}
 use mathlib.Core.List.{List}
-use Prim.Native.Nat.{ℕ, zero, suc, ◌+◌, ◌-◌, ◌≤◌, ◌<◌, max}
+use Prim.Native.Nat.{ℕ, zero, suc, ◌+◌, ◌-◌, ◌≤◌, ◌<◌}
+use native.Mathlib.Numerals.{add-one}
 use native.Mathlib.Decide.{ℕ_discrete}
 use native.Mathlib.Omega.{arith}
 use borrow.Author.Tests.{eq-eqb, ne_eqb}
@@ -23,30 +24,26 @@ free_suc : (ns : List ℕ) (n d : ℕ) → free_from ns n (suc d) ≡ pick (eqb 
 unfolding free_from
 free_suc ns n d = refl
 
--- node 0 means nothing, so the search begins at node 1
-pub free_first : (ns : List ℕ) (low high : ℕ) → free_node ns (max low 1) high ≡ free_node ns low high
+-- the search begins after the node before the lowest
+pub free_first : (ns : List ℕ) (low high : ℕ) → free_from ns (low - 1) (high - (low - 1)) ≡ free_node ns low high
 unfolding free_node
-free_first ns low high = let e : max low 1 - 1 ≡ low - 1 = omega arith in rw e refl
+free_first ns low high = refl
 
--- node n is looked at: it is free, or it is passed
-module _ (ns : List ℕ) (n high : ℕ) (some : 1 ≤ n) (h : n ≤ high) where
-  turn : free_node ns n high ≡ pick (eqb (word ns n STANDING) 0) n (free_node ns (n + 1) high)
-  unfolding free_node
+-- node n is passed and high is not reached: the next is free, or it is passed too
+module _ (ns : List ℕ) (n high : ℕ) (h : n < high) where
+  turn : free_from ns n (high - n) ≡ pick (eqb (word ns (n + 1) STANDING) 0) (n + 1) (free_from ns (n + 1) (high - (n + 1)))
   turn =
-      let before : suc (n - 1) ≡ n = omega arith in
-      let after : n + 1 - 1 ≡ n = omega arith in
-      let left : high - (n - 1) ≡ suc (high - n) = omega arith in
-      rw (left, free_suc ns (n - 1) (high - n), before, after)
+      let left : high - n ≡ suc (high - (n + 1)) = omega arith in
+      rw (left, free_suc ns n (high - (n + 1)), ← add-one n) refl
 
-  pub free_here : word ns n STANDING ≡ 0 → free_node ns n high ≡ n
+  pub free_here : word ns (n + 1) STANDING ≡ 0 → free_from ns n (high - n) ≡ n + 1
   free_here z = turn ∙ pick_true _ _ _ (eq-eqb _ 0 z)
 
-  pub free_on : (word ns n STANDING ≡ 0 → ⊥) → free_node ns n high ≡ free_node ns (n + 1) high
+  pub free_on : (word ns (n + 1) STANDING ≡ 0 → ⊥) → free_from ns n (high - n) ≡ free_from ns (n + 1) (high - (n + 1))
   free_on z = turn ∙ pick_false _ _ _ (ne_eqb _ 0 z)
 
-pub free_past : (ns : List ℕ) (n high : ℕ) → high < n → free_node ns n high ≡ 0
-unfolding free_node
-free_past ns n high h = let e : high - (n - 1) ≡ 0 = omega arith in rw e (free_end ns (n - 1))
+pub free_past : (ns : List ℕ) (n high : ℕ) → high ≤ n → free_from ns n (high - n) ≡ 0
+free_past ns n high h = let e : high - n ≡ 0 = omega arith in rw e (free_end ns n)
 
 pub ruleset looking = (free_first, free_here, free_on, free_past)
 

@@ -24,7 +24,9 @@ pub fn sweep(nodes: &mut [u32], n: u32, w: u32)
 pub fn free_node(nodes: &[u32], low: u32, high: u32) -> u32
     ensures { result ≡ free_node nodes.now low high }
 {
-    for n in low.max(1)..=high {
+    // By the node before: a range with no `=` has one test less a node.
+    for before in low.saturating_sub(1)..high {
+        let n = before + 1;
         if words::word(nodes, n, words::STANDING) == words::FREE {
             return n;
         }
