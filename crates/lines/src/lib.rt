@@ -20,6 +20,7 @@ pub enum Line {
         w: u32,
         l: u32,
     },
+    // Five, as `line_text` names them; the struct of the first three, replay's `Operation`, is above this crate.
     Ended {
         worker: u32,
         kind: u32,

@@ -4,7 +4,7 @@
 ghost use Rattle.std.specs.Prelude.{◌≡◌, ℕ, ◌+◌, ◌<◌, slice_index, get_or};
 ghost use Rattle.numbers.specs.Numbers.{little_endian};
 
-// Byte i of a body; 0 past its end.
+// Byte i of a body; 0 past its end. `words` reads a word by the same line: a crate for both would be no plainer.
 fn octet(body: &[u8], i: usize) -> u8
     ensures { result ≡ get_or body.now i 0 }
 {

@@ -46,7 +46,7 @@ fn asked(call: Call) -> Result<(), Answer>
     ensures { result ≡ ask_verdict call }
 {
     if let Call::Start { kind, key } = call {
-        if kind < kind::INSERT || kind::DELETE < kind {
+        if !matches!(kind, kind::INSERT..=kind::DELETE) {
             return Err(Answer::NoKind);
         }
         if names::KEY_LIMIT < key {

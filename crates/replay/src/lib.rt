@@ -187,7 +187,7 @@ fn put_call(page: &mut Page, operation: Operation, answer: Answer, steps: u32, o
     lines::put_line(page, ended);
 }
 
-// The first record has to be 00: where the next one starts.
+// The first record has to be 00: where the next one starts. By slice and offset, here and below, as `script::record_at` promises.
 fn first_at(schedule: &[u8]) -> Result<usize, Refusal>
     ensures { result ≡ first_record (entry_at schedule.now 0) }
 {

@@ -17,9 +17,14 @@ use Rattle.script.specs.declared.Reader.{Reader}
 use Rattle.script.specs.Script.{body_at}
 use Rattle.script.proofs.record_at.Reads as record-at
 use Rattle.script.proofs.record_at.Kinds as record-at-kinds
+use Rattle.script.proofs.KindTryFromU8.try_from.Reads as try_from
+use Rattle.script.proofs.KindTryFromU8.try_from.Kinds as try_from-kinds
 use Rattle.script.specs.contracts.Reader.at as reader_at
 use Rattle.script.specs.contracts.Reader.body as body
 use Rattle.script.specs.contracts.body_of as body_of
+
+pub try_from_same : Determined 0 try_from-kinds.ps try_from-kinds.r try_from.Post
+try_from_same κs a x y e f p q = p ∙ sym q
 
 pub record_at_same : Determined 1 record-at-kinds.ps record-at-kinds.r record-at.Post
 record_at_same κs a x y e f p q = p ∙ sym q
