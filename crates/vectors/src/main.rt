@@ -58,7 +58,7 @@ fn agrees(rt: &HostRuntime, name: &[u8]) -> bool {
     printed[..end] == text[..length]
 }
 
-// The case of an argument: its name, and whether it agrees. False where there is no such argument; one that is too long for any path counts as empty.
+// The case of an argument: its name, and whether it agrees. False where there is no such argument, a yes or no with no value beside it; one that is too long for any path counts as empty.
 fn tell(rt: &HostRuntime, i: usize) -> io::Result<bool> {
     let mut name = [0u8; PATH];
     let length = match rt.arg(i, &mut name) {
