@@ -8,8 +8,9 @@ use mathlib.Core.Path.{◌≡◌, refl, sym, ap, ◌∙◌}
 use mathlib.Core.Bool.{Bool, true, false}
 use mathlib.Core.List.{List, ◌++◌}
 use lib.Dec.{ltb}
-use lib.ListN.{length, set, drop, replicate, length-set, length-replicate}
+use lib.ListN.{length, set, take, drop, replicate, length-set, length-replicate}
 use lib.Seq.{paste, set-get_or, set-set, get_or-set_same}
+use Rattle.std.proofs.lemmas.List.{length-take-le}
 use Rattle.std.proofs.lemmas.List.Edits.{paste_all, fill_from_more}
 use borrow.Author.Tests.{le-leb, le-ltb, lt-ltb, ltb-false, ne_eqb}
 use Rattle.std.specs.Prelude.{Ok, Err}
@@ -212,8 +213,9 @@ module _ (l : Limits) (h : Header) (ws : List Worker) (ts : Tables) where
     wanted =
         ap (λ (p : Left Called). made ws (left (wants l.w p.out) p.tables)) e ∙ ap (made ws) (sym (pick_false _ _ _ (le-ltb (length ws) l.w enough)))
 
-    pub prepare_done : goes_on c.answer ≡ true → left (crew c (replicate l.w idle ++ drop l.w ws)) us ≡ prepare_at l h ws ts
-    prepare_done g = all_wanted l.w ws c us enough g ∙ wanted
+    -- the first W records are idle, as many as there are of them
+    pub prepare_done : goes_on c.answer ≡ true → left (crew c (replicate (length (take l.w ws)) idle ++ drop l.w ws)) us ≡ prepare_at l h ws ts
+    prepare_done g = rw (length-take-le l.w ws enough) (all_wanted l.w ws c us enough g ∙ wanted)
 
     pub prepare_none : goes_on c.answer ≡ false → left (crew c ws) us ≡ prepare_at l h ws ts
     prepare_none g = none_wanted l.w ws c us g ∙ wanted

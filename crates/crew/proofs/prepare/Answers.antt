@@ -1,6 +1,5 @@
 -- Too few records, W idle ones, or none.
-use Rattle.std.proofs.Common.{sym, ◌≡◌, length, take}
-use Rattle.std.proofs.lemmas.List.{length-take-le}
+use Rattle.std.proofs.Common.{sym}
 use Rattle.words.specs.Words.{tables}
 use Rattle.crew.proofs.Laws.{prepare_few, prepare_done, prepare_none}
 use Rattle.crew.proofs.prepare.Goals as goal
@@ -14,8 +13,7 @@ pub returns-then-goes_on : goal.returns-then-goes_on
 returns-then-goes_on c =
     let a = c.args in
     let enough = c.if-workers-count.false in
-    let all : length (take a.limits.w a.workers.now) ≡ a.limits.w = length-take-le a.limits.w a.workers.now enough in
-    rw (c.fill.ensures.after (λ y e. e), all, c.idle.ensures)
+    rw (c.fill.ensures.after (λ y e. e), c.idle.ensures)
     (prepare_done a.limits a.header a.workers.now (tables a.nodes.now a.buckets.now) enough _ _ c.prepare-called.ensures (sym c.if-goes_on.ensures))
 
 pub returns-else-goes_on : goal.returns-else-goes_on
