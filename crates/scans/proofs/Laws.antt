@@ -2,7 +2,7 @@
 -- Assumes nothing.
 use mathlib.Core.Path.{◌≡◌, refl, sym, ap, ◌∙◌}
 use mathlib.Core.Logic.{◌≢◌, ⊎_elim}
-use mathlib.Core.List.{List, [], ◌∷◌, ◌++◌}
+use mathlib.Core.List.{List, [], ◌∷◌}
 use Prim.Native.Nat.{ℕ, zero, suc, ◌+◌, ◌-◌, ◌*◌, ◌/◌, ◌≤◌, ◌<◌, min}
 use native.Mathlib.Nat.{add-zero, add-suc}
 use native.Mathlib.Numerals.{add-one}
@@ -10,11 +10,9 @@ use native.Mathlib.Decide.{ℕ_discrete}
 use native.Mathlib.Omega.{arith}
 use borrow.Author.Tests.{le-leb, lt-leb}
 use lib.Dec.{leb}
-use lib.ListN.{length, get_or, set, drop, replicate}
+use lib.ListN.{length, get_or, set}
 use lib.Seq.{get_or-set_other, set-get_or, set_out}
 use Rattle.std.proofs.lemmas.Bool.{cases_lt}
-use Rattle.std.proofs.lemmas.Grind.{same_number_lists}
-use Rattle.std.proofs.lemmas.List.{length-append, length-drop, length-replicate, get_or-replicate, get_or-drop, get_or_append_left, get_or-append_right}
 use Rattle.choice.proofs.Auto.{pick_true, pick_false}
 use Rattle.choice.proofs.Cases.{both}
 use Rattle.sets.specs.Sets.{dropped}
@@ -151,7 +149,7 @@ module _ (ns : List ℕ) (lo hi : ℕ) where
   unfolding free_node
   free_lowest n e ne one m a b = (found_after ns (lo - 1) (hi - (lo - 1)) n e ne).least m (omega arith) b
 
--- the turns of the clearing
+-- the clearing
 pub cleared_none : (ws : List ℕ) → cleared 0 ws ≡ ws
 unfolding cleared
 cleared_none ws = refl
@@ -162,7 +160,7 @@ cleared_length zero ws = refl
 cleared_length (suc k) ws = store_length (cleared k ws) k 0 ∙ cleared_length k ws
 
 -- a word that is set to 0 reads 0, in the table and past its end
-zero_at : (ws : List ℕ) (k : ℕ) → get_or (set ws k 0) k 0 ≡ 0
+pub zero_at : (ws : List ℕ) (k : ℕ) → get_or (set ws k 0) k 0 ≡ 0
 zero_at [] k = refl
 zero_at (x ∷ ws) zero = refl
 zero_at (x ∷ ws) (suc k) = zero_at ws k
@@ -180,17 +178,3 @@ pub cleared_beyond : (count : ℕ) (ws : List ℕ) (k : ℕ) → count ≤ k →
 unfolding cleared store
 cleared_beyond zero ws k h = refl
 cleared_beyond (suc c) ws k h = get_or-set_other (cleared c ws) c k 0 0 (omega arith) ∙ cleared_beyond c ws k (omega arith)
-
--- the first words filled with 0, as many of the count as there are
-pub cleared_fill : (count m : ℕ) (ws zs : List ℕ) → m ≡ min (length ws) count → zs ≡ replicate m 0 → zs ++ drop m ws ≡ cleared count ws
-cleared_fill count m ws zs em ez =
-    let lz = ap length ez ∙ length-replicate m 0 in
-    same_number_lists (zs ++ drop m ws) (cleared count ws)
-    (omega (arith, length-append zs (drop m ws), length-drop m ws, cleared_length count ws))
-    (λ k h.
-    ⊎_elim
-    (λ b. get_or_append_left zs (drop m ws) 0 k (omega (arith, b)) ∙ rw ez (get_or-replicate m k 0 0 b) ∙ sym (cleared_below count ws k (omega (arith, b))))
-    (λ a.
-    get_or-append_right zs (drop m ws) m k 0 lz a ∙ get_or-drop m ws (k - m) 0 ∙ ap (λ (i : ℕ). get_or ws i 0) (omega (arith, a))
-    ∙ sym (cleared_beyond count ws k (omega (arith, h, a, length-append zs (drop m ws), length-drop m ws))))
-    (cases_lt k m))

@@ -35,9 +35,16 @@ pub fn free_node(nodes: &[u32], low: u32, high: u32) -> u32
 }
 
 // The first count words become 0, as the tables have to be before the register starts.
+#[tactic(auto, using(crate::proofs::Clearing::clearing))]
 pub fn clear(table: &mut [u32], count: u32)
     ensures { table.new ≡ cleared count table.old }
 {
-    let n = table.len().min(count as usize);
-    table[..n].fill(0);
+    // Every second word, then those between: a loop that stores 0 in word after word with no test, as a `fill` does, becomes a call of `memset`, and the library calls nothing, not even the C library.
+    let n = (count as usize).min(table.len());
+    for i in 0..(n + 1) / 2 {
+        table[2 * i] = 0;
+    }
+    for j in 0..n / 2 {
+        table[2 * j + 1] = 0;
+    }
 }

@@ -2,10 +2,10 @@
 use Rattle.std.proofs.Common.{ℕ, sym}
 use Rattle.std.proofs.lemmas.List.{length-replicate}
 use Rattle.replay.proofs.Whole.{laid_counts}
-use Rattle.schedule.proofs.main.Goals as goal
+use Rattle.schedule.proofs.write_run.Goals as goal
 
-pub slice_bounds-run-end-2 : goal.slice_bounds-run-end-2
-slice_bounds-run-end-2 c = sym (length-replicate {A = ℕ} 589824 0)
+pub slice_bounds-run-end : goal.slice_bounds-run-end
+slice_bounds-run-end c = sym (length-replicate {A = ℕ} 589824 0)
 
 pub slice_bounds-out-end : goal.slice_bounds-out-end
 slice_bounds-out-end c = (laid_counts c.run-end.ensures).0
